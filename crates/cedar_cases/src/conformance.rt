@@ -12,13 +12,13 @@ use std::io::Write;
 /// The beginning of the first line of such a file: the name of a schema's file stands behind it.
 const FIRST: &str = "data\t";
 
-/// How many lines there are before the cases.
+/// The number of lines before the cases.
 const HEAD: usize = 1;
 
 /// The heading under which a difference is shown.
 const COLUMN: &str = "data";
 
-/// The name of the schema's file, where the cases of a file of this text are about data.
+/// The name of the schema's file, if the cases of a file of this text are about data.
 pub fn schema_of_data(text: &str) -> Option<&str> {
     text.lines().next()?.strip_prefix(FIRST)
 }

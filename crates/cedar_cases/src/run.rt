@@ -1,4 +1,4 @@
-// The run of the program, over any files and any two writers.
+// Runs of the program, over any files and any two writers.
 use crate::cases::{
     CaseCounts, CaseFile, FileFault, Notation, fault_of_columns, notation_of, run_cases,
     run_refusals,
@@ -17,8 +17,8 @@ use std::{fs, io};
 
 const USAGE: &str = "usage: cedar-cases FILE..\n";
 
-/// Runs the cases of each file, and answers the exit status: 0 where every case that ran agrees, 1 where one differs or
-/// something cannot be read or written, 2 without a file.
+/// Runs the cases of each file, and answers the exit status: 0 if every case that ran agrees, 1 if one differs or something
+/// cannot be read or written, 2 without a file.
 pub fn run<R: Files + AllocGlobal, O: Write, E: Write>(
     rt: &R,
     files: &[String],
@@ -103,7 +103,8 @@ fn run_schemas<O: Write>(
     Ok(counts.wrong == 0)
 }
 
-/// Runs the cases of a file that are about data, by the schema in the file of this name beside it, and answers whether all agree.
+/// Runs the cases of a file that are about data, by the schema in the file of this name beside it, and answers whether all
+/// agree.
 fn run_conformance<R: Files + AllocGlobal, O: Write>(
     rt: &R,
     name: &str,
@@ -123,7 +124,7 @@ fn write_counts<O: Write>(out: &mut O, name: &str, counts: CaseCounts) -> io::Re
     writeln!(out, "{name}: {} ran, {} differ", counts.ran, counts.wrong)
 }
 
-/// The text of a file. Where it cannot be had, that is written, and the answer is `None`.
+/// The text of a file. If it cannot be read, that is written, and the answer is `None`.
 fn read<R: Files + AllocGlobal, O: Write>(
     rt: &R,
     name: &str,
@@ -142,8 +143,8 @@ fn read<R: Files + AllocGlobal, O: Write>(
     }
 }
 
-/// The schema in the file of this name, which lies in the folder of another. Where there is none, why is written, and the answer
-/// is `None`.
+/// The schema in the file of this name, which lies in the folder of another. If there is none, the reason is written, and the
+/// answer is `None`.
 fn schema_beside<R: Files + AllocGlobal, O: Write>(
     rt: &R,
     name: &str,
@@ -184,7 +185,7 @@ fn write_file_fault<O: Write>(out: &mut O, name: &str, fault: FileFault) -> io::
     }
 }
 
-/// The schema of a text. Where there is none, why is written, and the answer is `None`.
+/// The schema of a text. If there is none, the reason is written, and the answer is `None`.
 fn read_schema<O: Write>(
     alloc: Global,
     name: &str,
@@ -206,7 +207,7 @@ fn read_schema<O: Write>(
     }
 }
 
-/// Writes why a schema is refused, and for which name of its text.
+/// Writes the reason why a schema is refused, and the name of its text that is refused.
 fn write_refusal<O: Write>(
     alloc: Global,
     name: &str,

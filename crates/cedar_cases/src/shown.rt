@@ -1,4 +1,4 @@
-// The answer of a check, as case files write it.
+// Answers of a check, as case files write them.
 mod applications;
 mod environments;
 mod forms;

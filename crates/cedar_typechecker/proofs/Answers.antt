@@ -68,7 +68,7 @@ fits_listed s t ps rs apps principals resources same =
     && same_types (is_among a.resources) (admitted_types s t.resource) rs resources i)
     ∙ same (fits (admitted_types s t.principal) (admitted_types s t.resource))
 
--- whether an action fits, from lists that hold those that were listed
+-- whether an action fits, from lists that equal those that were listed
 pub fits_held : (s : Schema) (t : PlainTemplate) (ps ps' rs rs' : List Path) (apps apps' : List Application)
     → ps ≡ ps' → rs ≡ rs' → apps ≡ apps' → ListsTypes (admitted_types s t.principal) ps'
     → ListsTypes (admitted_types s t.resource) rs'

@@ -4,7 +4,8 @@ mod Passes
 pub mod Validations
 pub mod SurveyedErrors
 pub mod Surveys
-pub mod Representatives
+pub mod LeftOut
+pub mod Surveyed
 pub mod Levels
 pub mod Slices
 pub mod ValidatorPromises

@@ -22,7 +22,7 @@ module _ {X : Type 0} (same : X → X → Bool) (decides : (x y : X) → Decides
       along true e later h = ap (λ r. r || list_any p ys) (ap p (sym ((decides x y).0 (sym e))) ∙ k)
       along false e later h = ap (λ r. p y || r) (later h) ∙ or-true (p y)
 
-  -- a list that has all members of another passes a test if that does
+  -- a list that has all members of another passes a test if the other does
   covered : (xs ys : List X) → ((x : X) → list_any (same x) xs ≡ true → list_any (same x) ys ≡ true)
       → list_any p xs ≡ true → list_any p ys ≡ true
   covered [] ys h k = cc

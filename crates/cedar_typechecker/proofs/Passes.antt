@@ -1,4 +1,4 @@
--- The findings of a pass at each mention are those that it must give.
+-- The findings of a pass at the mentions of a template are those that the rules give.
 use Rattle.std.proofs.Common.{◌≡◌, refl, ap, subst, ◌∙◌, Bool, true, false, cond, List, [], ◌∷◌, map, filter, Option, Some, None}
 use Rattle.std.specs.List.{filter_map, cons_option}
 use Rattle.std.specs.Prelude.{IsPermutation}

@@ -1,4 +1,5 @@
--- Slices: in a part of a store that holds a slice, what has no level error evaluates to the same.
+-- Slices: an expression without level errors evaluates over a part of a store that holds the slice
+-- as over the whole store.
 pub mod Ids
 pub mod Stores
 pub mod Same

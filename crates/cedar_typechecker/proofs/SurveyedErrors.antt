@@ -1,4 +1,4 @@
--- What a survey keeps of the errors and of their environments, one environment after another.
+-- The errors of a survey and their environments, as one environment after another is taken in.
 use Rattle.std.proofs.Common.{◌≡◌, ◌↔◌, ℕ, ◌+◌, ◌≤◌, ◌<◌, min, nat_le, Bool, true, false, true≢false, cond, List, [], ◌∷◌, ◌++◌, map, length, take, Option, Some, None}
 use Rattle.std.proofs.Common.{zero, suc, option_map, ◌⊎◌, inl, inr, refl, sym, ap, subst, ◌∙◌, arith}
 use Rattle.std.specs.Bool.{Decides}
@@ -31,7 +31,7 @@ use Rattle.cedar_typechecker.specs.Levels.Outcome.{AreApart}
 use Rattle.cedar_typechecker.specs.SurveyedErrors.{Request, about, about_env, IsListing, IsListingIfAny, here, elsewhere}
 use Rattle.cedar_typechecker.specs.SurveyedErrors.{AddsEnvironment, HasEnvironments}
 
--- ---- what an environment is about
+-- ---- the requests of an environment
 
 abbrev pub request_seen : PlacedRequest → Request
 request_seen p = record {
@@ -138,7 +138,7 @@ decided_alike false false d e f g = refl
 decided_alike true false d e f g = sym (e.1 (f (d.0 refl)))
 decided_alike false true d e f g = d.1 (g (e.0 refl))
 
--- errors that say the same are tied with the same errors
+-- errors with one finding are tied with the same errors
 ties_alike : (x k q : ValidationError) → finding_of x ≡ finding_of k → is_tied x q ≡ is_tied k q
 ties_alike x k q e =
     decided_alike (is_tied x q) (is_tied k q) (tie_decides x q) (tie_decides k q)
@@ -176,7 +176,7 @@ module _ {X : Type 0} where
       go false q k (inl e) = absurd (true≢false (sym ((tie_decides x p.0).1 e) ∙ q))
       go false q k (inr i) = k i
 
-  -- a key is some error
+  -- the finding of a key is that of some error
   pub of_key : (f : Finding) (es : List (ValidationError × X)) → IsOneOf f (map finding_of (keys_of es))
       → (x : ValidationError) × (finding_of x ≡ f)
   of_key f [] h = absurd h
@@ -240,7 +240,7 @@ module _ (env : Env) (envs : List Env) (v : Verdict) (vs : List Verdict) (old ne
         let P : Kept → Type 0 = λ m. IsListingIfAny w.0 (get error_cmp m x) in
         (w.0, elsewhere (none (finding_of x)) w.1, subst P (sym same) w.2)
 
-  -- one with these errors adds its environment to each
+  -- a verdict with these errors adds its environment to each
   module _ (xs : List ValidationError) (own : errors_in v ≡ map finding_of xs)
       (added : (x : ValidationError) → AddsEnvironment env (map finding_of xs) (finding_of x)
       (get error_cmp old x) (get error_cmp new x)) where
@@ -250,7 +250,7 @@ module _ (env : Env) (envs : List Env) (v : Verdict) (vs : List Verdict) (old ne
     from_own : (f : Finding) → IsOneOf f (errors_in v) → IsOneOf f (map finding_of xs)
     from_own f i = let P : List Finding → Type 0 = λ es. IsOneOf f es in subst P own i
 
-    -- of a finding that is that of an error
+    -- the finding of an error that is kept now is one of these errors, or was kept before
     key_now : (x : ValidationError) → IsOneOf (finding_of x) (map finding_of (keys new))
         → IsOneOf (finding_of x) (map finding_of xs) ⊎ IsOneOf (finding_of x) (map finding_of (keys old))
     key_now x i = go (decide_member (finding_of x) (map finding_of xs))
@@ -324,7 +324,7 @@ module _ (env : Env) (envs : List Env) (v : Verdict) (vs : List Verdict) (old ne
 
 -- ---- one more environment for some errors
 
--- what was kept, or nothing where nothing was
+-- the listing that was kept, or the empty one if none was
 pub unwrapped : (found : Option Environments) (none : Environments) → IsListing [] none
     → (own : List Env) → IsListingIfAny own found → IsListing own (unwrap_or found none)
 unwrapped (Some o) none d own h = h.0
@@ -394,7 +394,7 @@ one_more_error env es f x old mid new apart h k = record {
       k.kept (λ i. n (in_right x es (f ∷ []) i)) ∙ h.kept (λ i. n (in_left x es (f ∷ []) i));
 }
   where
-    -- x is one of those before: then it is not f
+    -- if x is one of those before, it is not f
     not_this : IsOneOf x es → IsOneOf x (f ∷ []) → ⊥
     not_this i (inl e) = let P : Finding → Type 0 = λ z. IsOneOf z es in apart (subst P e i)
     not_this i (inr j) = j
@@ -413,7 +413,7 @@ one_more_error env es f x old mid new apart h k = record {
     some (inl i) = subst IsSome (sym (k.kept (not_this i))) (h.there i)
     some (inr j) = k.there j
 
--- the same of other lists with the same members
+-- the errors may be replaced by another list with the same members
 pub added_alike : (env : Env) (es fs : List Finding) (x : Finding) (old new : Option Environments)
     → (IsOneOf x es → IsOneOf x fs) → (IsOneOf x fs → IsOneOf x es)
     → AddsEnvironment env es x old new → AddsEnvironment env fs x old new
@@ -423,7 +423,7 @@ added_alike env es fs x old new f g h = record {
   kept = λ n. h.kept (λ i. n (f i));
 }
 
--- no error adds nothing
+-- without errors nothing is added
 pub none_added : (env : Env) (x : Finding) (o : Option Environments) → AddsEnvironment env [] x o o
 none_added env x o = record {
   gained = λ i own h. absurd i;

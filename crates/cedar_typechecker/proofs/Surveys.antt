@@ -1,4 +1,5 @@
--- What a survey says, one environment after another, and what follows of all.
+-- The facts of a survey, as one environment after another is taken in, and those of all
+-- environments.
 pub mod Ties
 use Rattle.std.proofs.Common.{◌≡◌, ◌↔◌, ℕ, ◌+◌, ◌≤◌, Bool, true, false, ◌&&◌, ◌||◌, not, cond, List, [], ◌∷◌, ◌++◌, map, length, filter, Option, option_map, ap}
 use Rattle.std.proofs.Common.{suc, ◌⊎◌, inl, inr, refl, sym, subst, ◌∙◌, arith}
@@ -36,7 +37,7 @@ use Rattle.cedar_typechecker.proofs.SurveyedErrors.{quiet_errors, quiet_environm
 -- ---- the demands of one more environment
 
 module _ (schema : Schema) (env : Env) (envs : List Env) (vs : List Verdict) where
-  -- what is added are those of its verdict
+  -- the demands that are added are those of the environment's verdict
   pub demands_with : (v : Verdict) (old added new : List Demand) → Adds old added new
       → ((d : Demand) → IsOneOf d added ↔ IsDemandOfVerdict (surroundings_at schema env) v d)
       → ((d : Demand) → IsOneOf d old ↔ IsDemandInSome schema envs vs d)
@@ -54,7 +55,7 @@ module _ (schema : Schema) (env : Env) (envs : List Env) (vs : List Verdict) whe
       from (inl i) = in_right d old added ((h d).1 i)
       from (inr i) = in_left d old added ((k d).1 i)
 
-  -- a failed check adds none
+  -- a failed check adds no demands
   pub no_demands : (es : List Finding) (old : List Demand)
       → ((d : Demand) → IsOneOf d old ↔ IsDemandInSome schema envs vs d)
       → (d : Demand) → IsOneOf d old ↔ IsDemandInSome schema (env ∷ envs) (fails es ∷ vs) d
@@ -64,9 +65,9 @@ module _ (schema : Schema) (env : Env) (envs : List Env) (vs : List Verdict) whe
       from (inl i) = absurd i
       from (inr i) = (k d).1 i
 
--- ---- what is told of demands
+-- ---- the errors of demands
 
--- a finding that is told of one of these demands
+-- the finding is an error of one of these demands
 abbrev ToldOf : Text → ℕ → List Demand → Finding → Type 0
 ToldOf p n ds e = (d : Demand) × IsOneOf d ds × IsOneOf e (told_of p n d)
 
@@ -92,7 +93,7 @@ told_to p n (x ∷ ds) e d (inr i) k =
     in_right e (told_of p n x) (told p n ds) (told_to p n ds e d i k)
 
 module _ (b : Basis) (t : PlainTemplate) (n : ℕ) (bounded : n ≤ 4294967295) where
-  -- a finding that is told of a demand of these
+  -- the finding is an error of a demand that has P
   abbrev Told : (Demand → Type 0) → Finding → Type 0
   Told P e = (d : Demand) × P d × IsOneOf e (told_of t.id n d)
 
@@ -136,7 +137,7 @@ module _ (b : Basis) (t : PlainTemplate) (n : ℕ) (bounded : n ≤ 4294967295) 
   of_all (env ∷ envs) (v ∷ vs) h k e =
       of_more env envs v vs e (of_verdict env v (k v env h.0) e) (of_all envs vs h.1 k e)
 
-  -- so what is told of all demands are the level errors of all environments
+  -- so the errors of all demands are the level errors of all environments
   pub told_are_level_errors : (envs : List Env) (vs : List Verdict) (ds : List Demand)
       → VerdictsOf (ChecksOn b t) envs vs
       → ((v : Verdict) (env : Env) → ChecksOn b t env v → VerdictIsShared v)
@@ -163,7 +164,7 @@ or_swapped true false = refl
 or_swapped false true = refl
 or_swapped false false = refl
 
--- by what the demands of an environment are found
+-- the surroundings on which the demands in an environment depend
 pub surroundings_seen : (a : Option (Bor EntityUID)) (s : Schema) (e : RequestEnv) → a ≡ action_in e
     → ◌≡◌ {A = Surroundings} (record { action = option_map (λ u. uid_of u.now) a; schema = s })
     (surroundings_at s (env_of e))
@@ -176,7 +177,7 @@ module _ (schema : Schema) (env : Env) (envs : List Env) (vs : List Verdict) (ol
   applicable : ℕ
   applicable = length (filter may_apply vs)
 
-  -- new demands what x demands too
+  -- the new survey has the demands of x too
   abbrev pub Demands : TypedTree → Type 0
   Demands x =
       Adds (demands_of old.demands.keys) (add_demands (surroundings_at schema env) x 0 [])

@@ -1,4 +1,5 @@
--- Validation that finds no error, or none but wrong members: what it says of the check of the policy, and what that promises.
+-- Validation that finds no error, or wrong members alone: the check of the policy passes, and the
+-- promises follow.
 use Rattle.std.proofs.Common.{◌≡◌, ◌≤◌, inl, inr, ℕ, Bool, true, false, List, [], ◌∷◌, ◌++◌, length, None, refl, sym, ap, subst, arith}
 use Rattle.std.proofs.Common.{append_assoc}
 use Rattle.std.specs.Prelude.{IsPermutation, cond, ◌↔◌}
@@ -41,19 +42,19 @@ module _ {A : Type 0} where
   nothing_in [] h = refl
   nothing_in (x ∷ xs) h = absurd (h x (inl refl))
 
-  -- what is one of two lists, and not of the first
+  -- a member of two lists that is not in the first is in the second
   of_second : (x : A) (xs ys : List A) → (IsOneOf x xs → ⊥) → IsOneOf x (xs ++ ys) → IsOneOf x ys
   of_second x [] ys f h = h
   of_second x (z ∷ xs) ys f (inl e) = absurd (f (inl e))
   of_second x (z ∷ xs) ys f (inr h) = of_second x xs ys (λ k. f (inr k)) h
 
-  -- what is added to a list that gets no longer is nothing
+  -- a list to which members are added without making it longer gains none
   none_added : (xs ys : List A) → length (xs ++ ys) ≤ length xs → ys ≡ []
   none_added [] [] h = refl
   none_added [] (y ∷ ys) h = absurd (omega (arith, h))
   none_added (x ∷ xs) ys h = none_added xs ys (omega (arith, h))
 
-  -- nor is there more in a list that is no longer than a part of it
+  -- a list that is no longer than a part of it has nothing beside the part
   no_more : (all xs ys zs : List A) → IsPermutation all ((xs ++ ys) ++ zs) → length all ≤ length xs → ys ++ zs ≡ []
   no_more all xs ys zs p few =
       none_added xs (ys ++ zs)
@@ -62,7 +63,7 @@ module _ {A : Type 0} where
 
 -- ---- verdicts
 
--- where a failure without an error is a cut, and nothing is cut, a verdict without errors passes
+-- a verdict without errors passes, if a failure without an error is a cut, and nothing is cut
 silent_passes : (s : Setting) (e : Source) → (IsCut s e no_caps 1 → ⊥)
     → ((es : List Finding) → PolicyChecks s e (fails es) → is_silent es ≡ true → IsCut s e no_caps 1)
     → (v : Verdict) → PolicyChecks s e v → errors_in v ≡ [] → passes v ≡ true
@@ -87,7 +88,7 @@ other_slip : (p r : Bool) → impossible_policy ≡ invalid_action_application p
 other_slip p r e = cc
 
 module _ (s : Schema) (t : PlainTemplate) where
-  -- the warning of the scope is another one
+  -- the warning on the scope is another one than that on impossible policies
   not_of_scope : (c : Bool) → IsOneOf (impossible t) (cond c [] (application_warning s t ∷ [])) → ⊥
   not_of_scope true h = h
   not_of_scope false (inl e) = other_slip _ _ (ap (λ (w : Warning). w.slip) e)
@@ -100,7 +101,7 @@ module _ (s : Schema) (t : PlainTemplate) where
 
   -- ---- names
 
-  -- where there is none among their findings, all names are known
+  -- if the passes find nothing, all names are known
   both_known : unknown_types s t ++ unknown_actions s t ≡ [] → IsNamedBySchema s t
   both_known e = record {
     types = nil_left (unknown_types s t) (unknown_actions s t) e;
@@ -112,13 +113,14 @@ module _ (s : Schema) (t : PlainTemplate) where
   of_findings e =
       both_known (nil_right (wrong_members s t) (unknown_types s t ++ unknown_actions s t) e)
 
-  -- in the modes that make the passes, no finding of them is none of types and of actions
+  -- in the modes in which the passes run, all names are known if they find nothing
   pub names_known : (m : ValidationMode) → is_partial m ≡ false → name_findings m s t ≡ [] → IsNamedBySchema s t
   names_known Strict p e = of_findings e
   names_known Permissive p e = of_findings e
   names_known Partial p e = cc
 
-  -- where there are no more errors than wrong members, all names are known, and no check finds an error
+  -- if there are no more errors than wrong members, all names are known, and no check finds an
+  -- error
   both_none : (errors types : List Finding)
       → IsPermutation errors ((wrong_members s t ++ (unknown_types s t ++ unknown_actions s t)) ++ types)
       → length errors ≤ length (wrong_members s t) → IsNamedBySchema s t × (types ≡ [])
@@ -134,16 +136,16 @@ module _ (s : Schema) (t : PlainTemplate) where
   wrong_members_alone Permissive p errors types given few = both_none errors types given few
   wrong_members_alone Partial p errors types given few = cc
 
--- ---- what the check comes to
+-- ---- the outcome of the check
 
--- where no set has an error of a check, there is none
+-- the checks find no error if the set of their errors is empty
 pub none_of_checks : (types all : List Finding) → ((e : Finding) → IsOneOf e types ↔ IsOneOf e all) → types ≡ [] → all ≡ []
 none_of_checks types all same none = nothing_in all (λ e h. subst (IsOneOf e) none ((same e).1 h))
 
 module _ (b : Basis) (t : PlainTemplate) (listed : List Env) (verdicts : List Verdict)
     (in_some_order : IsPermutation listed (checked_envs b.schema b.mode t))
     (checked : VerdictsOf (ChecksOn b t) listed verdicts) where
-  -- where the sets are empty before it
+  -- the outcome of the check, if the sets are empty before it
   pub checked_alone : (answer : Bool) → all_pass verdicts ≡ answer
       → CheckedOn b t answer [] (all_errors verdicts) [] (warnings_of t verdicts)
   checked_alone answer e = record {
@@ -156,7 +158,7 @@ module _ (b : Basis) (t : PlainTemplate) (listed : List Env) (verdicts : List Ve
     warnings_added = λ x. (λ h. h, λ h. h);
   }
 
-  -- a warning that the policy is impossible is one of the check
+  -- the warning that the policy is impossible comes from the check
   due : (warnings : List Warning) → warnings ≡ application_warnings b.mode b.schema t ++ warnings_of t verdicts
       → IsOneOf (impossible t) warnings → IsOneOf (impossible t) (warnings_of t verdicts)
   due warnings warned h =
@@ -166,7 +168,7 @@ module _ (b : Basis) (t : PlainTemplate) (listed : List Env) (verdicts : List Ve
   pub alone : CheckedOn b t (all_pass verdicts) [] (all_errors verdicts) [] (warnings_of t verdicts)
   alone = checked_alone (all_pass verdicts) refl
 
-  -- so what the check promises of the warning is so of all warnings
+  -- so the promise of the check's warning is one of all warnings
   pub warned_is_never_true : AreBothKept b t (all_pass verdicts) [] (warnings_of t verdicts)
       → (warnings : List Warning)
       → warnings ≡ application_warnings b.mode b.schema t ++ warnings_of t verdicts
@@ -182,7 +184,7 @@ module _ (b : Basis) (t : PlainTemplate) (listed : List Env) (verdicts : List Ve
         condition_is_well_named b.schema t
         (record { unknowns = unknowns; types = names.types; actions = names.actions })
 
-    -- there nothing fails without an error
+    -- no part fails without an error in the environments of the policy
     settled : (env : Env) → IsOneOf env (checked_envs b.schema b.mode t) → IsSettled (setting_on b t.id env)
     settled env k = record {
       faultless = record { mode = sound; schema = schema; formed = formed; functions = functions };
@@ -208,7 +210,7 @@ module _ (b : Basis) (t : PlainTemplate) (listed : List Env) (verdicts : List Ve
 
 -- ---- the promises
 
--- where no error is another one, all names are known and the check passes
+-- if there are wrong members alone, all names are known and the check passes
 passes_alone : (b : Basis) (t : PlainTemplate) (errors : List Finding) (warnings : List Warning)
     (o : ValidationOutcome b t errors warnings)
     → has_fault b.schema ≡ false → IsFormedFor b.mode b.schema → table_fault b.table.functions ≡ None

@@ -1,4 +1,5 @@
--- The test whether the scope of a policy fits an action, and whether `in` in place of `==` might help.
+-- The test whether the scope of a policy fits an action, and whether `in` in place of `==` might
+-- help.
 use Rattle.std.specs.Prelude.{◌≡◌, Bool, true, false, not, ◌&&◌, List, Option, Some, None, option_map, Result, Ok, Err}
 use Rattle.std.specs.List.{list_any}
 use Rattle.cedar_types.specs.declared.base.errors.validation_warnings.ValidationWarning.{ValidationWarning}
@@ -19,7 +20,8 @@ use Rattle.cedar_typechecker.specs.Scopes.{admitted_types, admitted_applications
 abbrev pub fits : List Path → List Path → Application → Bool
 fits ps rs a = list_any (is_among a.principals) ps && list_any (is_among a.resources) rs
 
--- whether an admitted, defined action has a principal type and a resource type that the constraints admit
+-- whether an admitted and defined action has a principal type and a resource type that the
+-- constraints admit
 abbrev pub has_fitting_action : Schema → PlainTemplate → Bool
 has_fitting_action s t =
     list_any (fits (admitted_types s t.principal) (admitted_types s t.resource))
@@ -41,24 +43,27 @@ equal_type (within r) = None
 equal_type (typed t) = None
 equal_type (typed_within t r) = None
 
--- no action lists the type itself, and one lists a type that is declared as a descendant of it
+-- one action lists a type that is declared as a descendant, and none lists the type itself, because
+-- then `==` is not the reason that no action fits
 abbrev pub lists_only_below : Schema → Side → List Application → Path → Bool
 lists_only_below s side apps p =
     not (list_any (λ a. is_among (types_on side a) p) apps)
     && list_any (λ a. list_any (is_among (descendants_of s.types p)) (types_on side a)) apps
 
+-- whether `in` might help for the type, if there is one
 abbrev pub might_help : Schema → Side → List Application → Option Path → Bool
 might_help s side apps None = false
 might_help s side apps (Some p) = lists_only_below s side apps p
 
--- whether `in` might help: the constraint is `==` an entity, no admitted, defined action lists its type, and one
--- lists a descendant of it
+-- whether `in` might help: the constraint is `==` an entity, and no admitted and defined action
+-- lists the entity's type, but one lists a descendant of that type
 abbrev pub in_might_help : Schema → Side → List Application → Scope → Bool
 in_might_help s side apps c = might_help s side apps (equal_type c)
 
 -- ---- the warning
 
--- the warning that no action fits, at the policy's place, with a flag for the principal and one for the resource
+-- the warning that no action fits, at the policy's place, with a flag for the principal and one for
+-- the resource
 abbrev pub application_warning : Schema → PlainTemplate → Warning
 application_warning s t =
     let apps = admitted_applications s t.action in

@@ -9,4 +9,5 @@ pub mod Slices
 pub mod Validations
 pub mod SurveyedErrors
 pub mod Surveys
-pub mod Representatives
+pub mod LeftOut
+pub mod Surveyed

@@ -1,5 +1,5 @@
--- The entity types that the scope of a policy admits for the principal and for the resource, and the
--- actions that it admits.
+-- The entity types that the scope of a policy admits for the principal and for the resource, and
+-- the actions that it admits.
 use Rattle.std.specs.Prelude.{Bool, true, false, cond, List, [], ◌∷◌, map}
 use Rattle.std.specs.List.{list_all, flat_map}
 use Rattle.std.specs.Option.{option_to_list}
@@ -19,7 +19,8 @@ only_if false p = []
 
 -- the entity types that a constraint on the principal or on the resource admits
 abbrev pub admitted_types : Schema → Scope → List Path
--- no constraint, or `==` or `in` a slot: each declared type
+-- no constraint, or `==` or `in` a slot: each declared type, because a slot may be bound to an
+-- entity of any type
 admitted_types s any = type_names s.types
 admitted_types s (equal to_slot) = type_names s.types
 admitted_types s (within to_slot) = type_names s.types

@@ -1,4 +1,5 @@
--- Parts of a store: what a request reaches, and what evaluation in a part of the store gives.
+-- Parts of a store: the ids that a request reaches, the slice of their entries, and evaluation over
+-- a part in place of the whole store.
 pub mod Reach
 pub mod Soundness
 pub mod Policies

@@ -1,4 +1,4 @@
--- In which environments an error comes, and what a survey keeps of them.
+-- The environments in which an error occurs, and the listing of them that a survey keeps.
 use Rattle.std.specs.Prelude.{◌≡◌, List, [], ◌∷◌, ◌++◌, map, length, take, Option, None, Some, option_map, IsSome}
 use Rattle.cedar_types.specs.Environments.RequestEnvs.{Env, Declared, Undeclared}
 use Rattle.cedar_types.specs.Errors.{Finding}
@@ -12,7 +12,7 @@ use Rattle.cedar_typechecker.specs.Levels.Demands.{capped}
 
 -- ---- an environment
 
--- what its requests are about: a principal's type, an action, a resource's type
+-- the requests of an environment: a principal's type, an action, a resource's type
 pub record Request : Type 0 where
   pub principal : Path
   pub action : Uid
@@ -42,7 +42,8 @@ about e = record {
 
 -- ---- the environments of an error
 
--- own are those of these environments in whose verdicts it is, the last of them first in the list
+-- own are the environments in whose verdicts the error is, in the order in which they were checked;
+-- envs has the last one first
 pub data IsFoundIn (e : Finding) : List Env → List Verdict → List Env → Type 0 where
   nowhere : IsFoundIn e [] [] []
   here : {env : Env} {envs : List Env} {v : Verdict} {vs : List Verdict} {own : List Env}
@@ -52,21 +53,22 @@ pub data IsFoundIn (e : Finding) : List Env → List Verdict → List Env → Ty
       → (IsOneOf e (errors_in v) → ⊥) → IsFoundIn e envs vs own
       → IsFoundIn e (env ∷ envs) (v ∷ vs) own
 
--- what is kept of some environments: their number, and the first five
+-- a listing of some environments: their number, and the first five
 pub record IsListing (own : List Env) (o : Environments) : Type 0 where
   pub count : o.count ≡ capped (length own)
   pub first : map about o.listed.items ≡ map about_env (take 5 own)
 
--- and of none, where there is none
+-- a listing is kept exactly if there is an environment
 abbrev pub IsListingIfAny : List Env → Option Environments → Type 0
 IsListingIfAny own None = own ≡ []
 IsListingIfAny own (Some o) = IsListing own o × (own ≡ [] → ⊥)
 
--- what is kept of the environments of an error
+-- the listing of the environments of an error
 abbrev pub HasEnvironments : Finding → List Env → List Verdict → Option Environments → Type 0
 HasEnvironments e envs vs o = (own : List Env) × IsFoundIn e envs vs own × IsListingIfAny own o
 
--- of one error: an environment in which these errors are found is added
+-- the listing of an error gains an environment in which the errors es are found, if the error is
+-- one of these
 pub record AddsEnvironment (env : Env) (es : List Finding) (e : Finding)
     (old new : Option Environments) : Type 0 where
   pub gained : IsOneOf e es → (own : List Env) → IsListingIfAny own old

@@ -1,4 +1,5 @@
--- What a survey of a policy says: what the checks in all of its environments find, and what their typed conditions demand.
+-- The survey of a policy: the findings of its checks in all of its environments, and the demands of
+-- their typed conditions.
 use Rattle.std.specs.Prelude.{◌≡◌, ◌↔◌, ℕ, ◌≤◌, max, nat_le, Bool, true, false, List, [], ◌∷◌, ◌++◌, map, Option, Some, None, if◌then◌else◌, ◌⊎◌}
 use Rattle.std.specs.Prelude.{IsPermutation, filter, length, not}
 use Rattle.std.specs.BTreeMap.{keys, get}
@@ -24,9 +25,9 @@ use Rattle.cedar_typechecker.specs.Levels.Setting.{action_of}
 use Rattle.cedar_typechecker.specs.Levels.Views.{demands_of}
 use Rattle.cedar_typechecker.specs.SurveyedErrors.{HasEnvironments}
 
--- ---- of verdicts
+-- ---- verdicts
 
--- a check that fails and finds no error
+-- the check fails and finds no error
 abbrev pub fails_silently : Verdict → Bool
 fails_silently (succeeds x) = false
 fails_silently (irrelevant es x) = false
@@ -35,23 +36,23 @@ fails_silently (fails es) = is_silent es
 abbrev pub some_fails_silently : List Verdict → Bool
 some_fails_silently = list_any fails_silently
 
--- a policy may apply where its check is not irrelevant, or finds an error
+-- a policy may apply in an environment if its check there is not irrelevant, or finds an error
 abbrev pub may_apply : Verdict → Bool
 may_apply (succeeds x) = true
 may_apply (irrelevant es x) = not (is_silent es)
 may_apply (fails es) = true
 
--- by what the demands of an environment are found
+-- the surroundings on which the demands in an environment depend
 abbrev pub surroundings_at : Schema → Env → Surroundings
 surroundings_at s env = record { action = action_of env; schema = s }
 
--- a demand of what a check typed: a failed one typed no condition
+-- a demand of the condition that a check typed. A failed check typed none
 abbrev pub IsDemandOfVerdict : Surroundings → Verdict → Demand → Type 0
 IsDemandOfVerdict s (succeeds x) d = IsOneOf d (add_demands s x 0 [])
 IsDemandOfVerdict s (irrelevant es x) d = IsOneOf d (add_demands s x 0 [])
 IsDemandOfVerdict s (fails es) d = ⊥
 
--- a demand of some environment, with its verdict
+-- a demand of some environment, by that environment's verdict
 abbrev pub IsDemandInSome : Schema → List Env → List Verdict → Demand → Type 0
 IsDemandInSome s [] vs d = ⊥
 IsDemandInSome s (env ∷ envs) [] d = ⊥
@@ -60,7 +61,8 @@ IsDemandInSome s (env ∷ envs) (v ∷ vs) d =
 
 -- ---- the least level
 
--- a level that is needed beside those so far; none is enough where none was
+-- the least level that meets one need beside those so far. No level is enough if none was, or if
+-- none meets the need
 abbrev pub raise : Need → Option ℕ → Option ℕ
 raise need None = None
 raise (this_level k) (Some least) = Some (max least k)
@@ -71,12 +73,12 @@ abbrev pub raise_all : List Demand → Option ℕ → Option ℕ
 raise_all [] r = r
 raise_all (d ∷ ds) r = raise_all ds (raise d.need r)
 
--- what is left of it as a number of 32 bits
+-- the level if it has at most 32 bits, because no maximum has more
 abbrev pub of_32_bits : Option ℕ → Option ℕ
 of_32_bits None = None
 of_32_bits (Some least) = if nat_le least 4294967295 then Some least else None
 
--- ---- what a survey says
+-- ---- views of a survey
 
 unfoldable pub passes_of : Survey → Bool
 passes_of s = s.passes
@@ -87,7 +89,7 @@ impossible_of s = s.is_impossible
 unfoldable pub fails_silently_of : Survey → Bool
 fails_silently_of s = s.fails_without_error
 
--- in how many environments the policy may apply
+-- the number of environments in which the policy may apply
 unfoldable pub applicable_of : Survey → ℕ
 applicable_of s = s.applicable
 
@@ -95,7 +97,7 @@ applicable_of s = s.applicable
 unfoldable pub errors_of : Survey → List Finding
 errors_of s = map finding_of (keys s.errors)
 
--- what is kept of the environments of an error, if it is one of them
+-- the environments that are kept for an error, if the survey has that error
 unfoldable pub environments_of : Survey → ValidationError → Option Environments
 environments_of s x = get error_cmp s.errors x
 
@@ -131,9 +133,9 @@ pub record IsSurveyOf (b : Basis) (t : PlainTemplate) (s : Survey) : Type 0 wher
   pub passes : passes_of s ≡ all_pass verdicts
   pub impossible : impossible_of s ≡ all_irrelevant verdicts
   pub silent : fails_silently_of s ≡ some_fails_silently verdicts
-  -- in how many environments it may apply, up to the greatest number of 64 bits
+  -- the number of environments in which it may apply, up to the greatest number of 64 bits
   pub applicable : applicable_of s ≡ capped (length (filter may_apply verdicts))
-  -- the errors of the checks, and in which environments each comes
+  -- the errors of the checks, and the environments in which each occurs
   pub errors : (e : Finding) → IsOneOf e (errors_of s) ↔ IsOneOf e (all_errors verdicts)
   pub environments : (x : ValidationError)
       → HasEnvironments (finding_of x) listed verdicts (environments_of s x)

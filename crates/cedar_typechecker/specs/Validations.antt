@@ -1,5 +1,5 @@
--- What the validation of a policy promises, without levels: where it finds no error but ids that their
--- enumerated types do not list, and where it warns that the policy is impossible.
+-- The promises of validation without levels: a policy whose only errors are ids that their
+-- enumerated types do not list is safe, and a policy that is warned to be impossible is never true.
 use Rattle.std.specs.Prelude.{◌≡◌, ◌≤◌, false, List, length, None}
 use Rattle.cedar_types.specs.Errors.{Finding, Warning}
 use Rattle.cedar_types.specs.Extensions.Functions.{table_fault}
@@ -14,27 +14,30 @@ use Rattle.cedar_typing.specs.Soundness.PolicyCheck.{IsBooleanOrAllowed}
 use Rattle.cedar_typechecker.specs.Levels.Outcome.{ValidationOutcome}
 use Rattle.cedar_typechecker.specs.Slices.Validation.{IsCutNowhere, WarnedIsNeverTrue}
 
--- there are no more errors than ids that their enumerated types do not list. Each of these is an error,
--- so there is no other one
+-- validation finds no more errors than ids that their enumerated types do not list. There is no
+-- other error then, because in Strict and in Permissive each such id is an error
 abbrev pub HasWrongMembersAlone : Schema → PlainTemplate → List Finding → Type 0
 HasWrongMembersAlone s t errors = length errors ≤ length (wrong_members s t)
 
--- where validation finds no other error, and nothing is nested too deep: in each world that conforms, of
--- a policy without unknowns, whose slots stand in its scope alone and are bound, the condition evaluates
--- to a boolean, or fails only for a missing entity, an overflow or an extension call
+-- a policy without another error, of which nothing is nested too deep, is safe: if it has no
+-- unknowns, and its slots stand in its scope alone and are bound, its condition evaluates in each
+-- world that conforms to a boolean, or fails only for a missing entity, an overflow or an extension
+-- call
 abbrev pub ValidIsSafe : Basis → PlainTemplate → List Finding → Type 0
 ValidIsSafe b t errors =
     HasWrongMembersAlone b.schema t errors → IsCutNowhere b t → IsSoundAndClosed b
     → (world : World) → IsWellFormed t world.slots → IsConforming b world
     → IsBooleanOrAllowed (eval world (condition_of t))
 
--- that, and that what is warned to be impossible is never true, with errors or without
+-- both promises: a policy without another error is safe, and one that is warned to be impossible is
+-- never true, with errors or without
 pub record ValidationIsKept (b : Basis) (t : PlainTemplate) (errors : List Finding)
     (warnings : List Warning) : Type 0 where
   pub silent : ValidIsSafe b t errors
   pub never_true : WarnedIsNeverTrue b t warnings
 
--- by a schema and a table without faults, both follow from what the validation comes to
+-- both promises follow from the outcome of the validation, if the schema and the table have no
+-- faults
 abbrev pub ValidationsAreKept : Type 0
 ValidationsAreKept =
     (b : Basis) (t : PlainTemplate)

@@ -1,4 +1,4 @@
--- Views of a validator.
+-- Views of a validator: its schema, its extension functions and its basis.
 use Rattle.std.specs.Borrow.{Bor}
 use Rattle.cedar_types.specs.declared.base.expressions.extensions.ExtensionSchemas.{ExtensionSchemas}
 use Rattle.cedar_types.specs.declared.base.schema.ValidatorSchema.{ValidatorSchema}

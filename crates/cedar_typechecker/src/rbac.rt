@@ -5,7 +5,7 @@ mod entity_types;
 mod flags;
 mod linking;
 mod literal_errors;
-mod members;
+pub(crate) mod members;
 mod slot_errors;
 mod validator;
 

@@ -1,4 +1,4 @@
-//! What the checks of a policy in all of its environments say together.
+//! The survey of a policy: the results of its checks in all of its environments together.
 ghost use Rattle.std.specs.Prelude.{◌≡◌, ◌↔◌, option_map, IfOk};
 ghost use Rattle.std.specs.BTreeMap.{keys, get};
 ghost use Rattle.cedar_types.specs.declared.base.errors.validation_errors.ValidationError.{ValidationError};
@@ -9,21 +9,26 @@ ghost use Rattle.cedar_typechecker.specs.Levels.Views.{findings};
 ghost use Rattle.cedar_typechecker.specs.Surveys.{passes_of, impossible_of, fails_silently_of, applicable_of, errors_of, environments_of, level_errors_of, required_of};
 
 mod checks;
+mod decided;
 mod demands;
 mod environments;
-mod representatives;
+mod left_out;
+mod one_action;
+mod scope;
 
 use crate::level_validate::demands::Demand;
 use cedar_types::base::{EntityDerefLevel, PolicyID, ValidationError};
 use demands::{errors_at, least_level};
 pub use environments::{Environment, Environments};
+pub use left_out::left_out_is_quiet;
 use std::alloc::{AllocError, Global};
 use std::collections::{BTreeMap, BTreeSet};
 
-/// What the checks of a policy in all of its environments say, in a mode: each environment was typed at most once.
+/// The results of the checks of a policy in all of its environments, in a mode: each environment was typed at most
+/// once.
 ///
-/// It holds each error once, with its first environments, and each demand on levels. So it does not grow with the number of
-/// environments.
+/// The survey holds each error once, with its first environments, and each demand on levels. So it does not grow with
+/// the number of environments.
 #[derive(Drop)]
 pub struct Survey {
     pub(crate) policy_id: PolicyID,
@@ -45,7 +50,7 @@ impl Survey {
         self.passes
     }
 
-    /// Whether the policy is impossible: irrelevant in each environment, so where there is none too.
+    /// Whether the policy is impossible: irrelevant in each environment, or checked in none.
     #[tactic(auto, unfolding(crate::specs::Surveys::impossible_of))]
     pub fn is_impossible(&self) -> bool
         ensures { result ≡ impossible_of self.now }
@@ -61,8 +66,8 @@ impl Survey {
         self.fails_without_error
     }
 
-    /// In how many environments the policy may apply: in which its check is not irrelevant, or finds an error. The greatest number
-    /// of 64 bits stands for itself and for all greater ones.
+    /// The number of environments in which the policy may apply, because its check there is not irrelevant, or finds an
+    /// error. The greatest number of 64 bits stands for itself and for all greater ones.
     #[tactic(auto, unfolding(crate::specs::Surveys::applicable_of))]
     pub fn applicable_environments(&self) -> u64
         ensures { result ≡ applicable_of self.now }
@@ -70,7 +75,7 @@ impl Survey {
         self.applicable
     }
 
-    /// The errors of the checks, each once and in order, with the environments in which it comes. It takes no memory.
+    /// The errors of the checks, each once and in order, with the environments in which it occurs. It takes no memory.
     #[tactic(auto, unfolding(crate::specs::Surveys::errors_of, crate::specs::Surveys::environments_of))]
     pub fn errors(&self) -> &BTreeMap<ValidationError, Environments>
         ensures errors { findings (keys result.now) ≡ errors_of self.now }
@@ -80,7 +85,7 @@ impl Survey {
         &self.errors
     }
 
-    /// The same, and nothing else of the survey.
+    /// Gives up the survey for its errors: each once and in order, with the environments in which it occurs.
     #[tactic(auto, unfolding(crate::specs::Surveys::errors_of, crate::specs::Surveys::environments_of))]
     pub fn into_errors(self) -> BTreeMap<ValidationError, Environments>
         ensures errors { findings (keys result) ≡ errors_of self }
@@ -104,7 +109,7 @@ impl Survey {
         errors_at(alloc, &self.demands, max_deref_level, &self.policy_id)
     }
 
-    /// The least level from 0 to 4294967295 at which there is no level error; `None` where no level is enough. It takes no
+    /// The least level from 0 to 4294967295 at which there is no level error; `None` if no level is enough. It takes no
     /// memory.
     #[tactic(auto, unfolding(crate::specs::Surveys::required_of))]
     pub fn required_level(&self) -> Option<EntityDerefLevel>

@@ -28,11 +28,12 @@ impl<C: ArgumentCheck> Validator<'_, C> {
     /// that no action fits the scope; and in each mode that the policy is impossible: irrelevant in each environment. Each
     /// environment is typed at most once, and one typed condition is held at a time.
     ///
-    /// In Strict and in Permissive a policy without errors, and without a part that is nested too deep, does not go wrong (clause
-    /// `silent`): evaluating it gives a boolean, or fails only for a missing entity, an overflow or an extension function. This is promised too if each error is an id that its enumerated type does not list, so that there are no
-    /// more than `validate_enum_entity` finds, because typing does not ask which ids a type lists. A policy that is warned to be
-    /// impossible is never true, with errors or without (clause `never_true`). The premises of all this
-    /// are in docs/THEOREMS.md, "The premises".
+    /// In Strict and in Permissive a policy without errors, and without a part that is nested too deep, does not go
+    /// wrong (clause `silent`): evaluating it gives a boolean, or fails only for a missing entity, an overflow or an
+    /// extension function. This is promised too if each error is an id that its enumerated type does not list, so that
+    /// there are no more than `validate_enum_entity` finds, because typing does not ask which ids a type lists. A
+    /// policy that is warned to be impossible is never true, with errors or without (clause `never_true`). The premises
+    /// of all this are in docs/THEOREMS.md, "The premises".
     ///
     /// If a part is nested too deep the check fails, perhaps without an error, so you must not take a policy without errors for one
     /// that passes: `typecheck_policy` answers `true` of no such policy. Where memory is refused, the answer is an `AllocError`.
@@ -86,7 +87,7 @@ impl<C: ArgumentCheck> Validator<'_, C> {
         Ok(found)
     }
 
-    /// The warnings: that no action fits the scope, in the modes that ask it, and that the policy is impossible.
+    /// The warnings: that no action fits the scope, in Strict and in Permissive, and that the policy is impossible.
     pub(crate) fn warnings(
         &self,
         alloc: Global,

@@ -1,4 +1,4 @@
-// The answers of a policy's checks, as a column shows them.
+// Answers of a policy's checks, as a column shows them.
 use crate::cases::columns::{Subject, Wanted};
 use crate::cases::names::about_names;
 use crate::shown::{Source, environment, level_outcome, outcome, policy_outcome, typed_condition};
@@ -11,7 +11,7 @@ use std::collections::HashSet;
 /// The text between the environments of a field.
 const BETWEEN: &str = " | ";
 
-/// A policy that is asked about, and the text that its places are in.
+/// A policy that is asked about, and the text of its places.
 #[derive(Clone, Copy)]
 pub struct Asked<'a> {
     pub alloc: Global,
@@ -21,9 +21,8 @@ pub struct Asked<'a> {
 }
 
 impl Asked<'_> {
-    /// What is shown of the policy: of its names and its scope, of its validation with levels, of the
-    /// level that it requires, of all of its checks, or of the check in each environment, with ` | `
-    /// between them, sorted by bytes.
+    /// The answer about the policy: on its names and its scope, on its validation with levels, on the level that it requires,
+    /// on all of its checks, or on the check in each environment, with ` | ` between environments, sorted by bytes.
     pub fn about(self, wanted: Wanted) -> Result<String, AllocError> {
         match wanted {
             Wanted::Names(question) => {
@@ -110,7 +109,7 @@ impl Asked<'_> {
     }
 }
 
-/// The same environments, sorted by bytes: their order is open.
+/// The wanted environments, sorted by bytes, because their order is open.
 pub fn in_order(alloc: Global, wanted: &str) -> Result<String, AllocError> {
     let mut parts: Vec<&str> = wanted.split(BETWEEN).collect(alloc)?;
     parts.sort()?;

@@ -1,4 +1,4 @@
-// The columns of a case file.
+// Columns of a case file.
 use cedar_types::base::{SlotId, ValidationMode};
 
 /// The content of a column.
@@ -10,11 +10,11 @@ pub enum Column {
     Policy,
     /// The scope of the policy.
     Scope,
-    /// Its condition; nothing where it has none.
+    /// The condition of the policy; nothing if it has none.
     Condition,
     /// The entity that a slot is bound to.
     Slot(SlotId),
-    /// The type that a chain of attributes begins at.
+    /// The type at which a chain of attributes begins.
     Root,
     /// The attributes of the chain.
     Attributes,
@@ -24,23 +24,23 @@ pub enum Column {
     Wanted(Wanted),
 }
 
-/// Something that is asked of a policy.
+/// A question about a policy.
 #[derive(Clone, Copy, PartialEq, Eq, Debug)]
 pub enum Wanted {
-    /// Of its checks in a mode.
+    /// A question about its checks in a mode.
     Checks(ValidationMode, Subject),
-    /// Of its validation with levels in a mode, for this maximum.
+    /// A question about its validation with levels in a mode, for this maximum.
     Levels(ValidationMode, u32),
-    /// The level that it requires in a mode.
+    /// The question for the level that it requires in a mode.
     RequiredLevel(ValidationMode),
-    /// Of its names and its scope.
+    /// A question about its names and its scope.
     Names(Question),
 }
 
 /// The part of a check that is shown.
 #[derive(Clone, Copy, PartialEq, Eq, Debug)]
 pub enum Subject {
-    /// Its outcome, with the errors.
+    /// The outcome of the check, with the errors.
     Outcome,
     /// The typed condition.
     Typed,
@@ -55,7 +55,7 @@ pub enum Subject {
 pub enum Question {
     /// The entity types that the schema does not know.
     EntityTypes,
-    /// The actions that it does not declare.
+    /// The actions that the schema does not declare.
     ActionIds,
     /// The ids that their enumerated type does not have.
     EnumEntities,
@@ -63,12 +63,12 @@ pub enum Question {
     SlotTypes,
     /// Whether an action applies to a principal and a resource that the scope admits.
     Application,
-    /// The same with the slots bound.
+    /// Whether an action applies with the slots bound.
     LinkedApplication,
 }
 
 impl Column {
-    /// The column of this name. `None` where there is none.
+    /// The column of this name; `None` if there is none.
     pub fn by_name(name: &str) -> Option<Column> {
         match name {
             "about" => Some(Column::About),
@@ -84,7 +84,7 @@ impl Column {
         }
     }
 
-    /// Whether it is about a chain of attributes, and not about a policy.
+    /// Whether the column is about a chain of attributes, and not about a policy.
     pub fn is_of_chain(self) -> bool {
         matches!(self, Column::Root | Column::Attributes | Column::Cost)
     }
@@ -98,7 +98,7 @@ impl Wanted {
         }
     }
 
-    /// The question in the mode with which the name begins: nothing behind it is the outcome.
+    /// The question in the mode that the name begins with. A name without more asks for the outcome.
     fn in_mode(name: &str) -> Option<Wanted> {
         let Some((mode, asked)) = name.split_once(' ') else {
             return Some(Wanted::Checks(mode_by_name(name)?, Subject::Outcome));

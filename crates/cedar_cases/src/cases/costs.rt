@@ -1,4 +1,4 @@
-// Cases of chains of attributes: how much a chain costs from its root.
+// Cases of chains of attributes: the cost of a chain from its root.
 use crate::cases::differences::{agrees, write_fault};
 use crate::cases::files::Case;
 use cedar_reading::{ReadError, type_alone};
@@ -43,7 +43,7 @@ fn cost(
     attr_chain_cost_from_root(alloc, schema, root, chain.as_slice())?.to_string(alloc)
 }
 
-/// The attributes in a field, which has nothing where there are none.
+/// The attributes in a field, which is empty if there are none.
 fn chain_of(alloc: Global, attributes: &str) -> Result<Vec<RcStr>, AllocError> {
     let mut chain = Vec::new(alloc);
     if attributes.is_empty() {

@@ -1,4 +1,4 @@
-// The lines that are written for a case that does not agree.
+// Lines that are written for a case that does not agree.
 use cedar_reading::{Fault, Position};
 use cedar_types::base::OneLine;
 use std::io;
@@ -17,7 +17,7 @@ pub fn write_fault<W: Write>(
     Ok(false)
 }
 
-/// Whether a column gets the answer that it wants for the case in this line. If not, both are written, each on one line.
+/// Whether a column gets the wanted answer for the case in this line. If not, both answers are written, each on one line.
 pub fn agrees<W: Write>(
     name: &str,
     number: usize,

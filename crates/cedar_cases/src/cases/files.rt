@@ -1,4 +1,4 @@
-// The lines of a case file.
+// Lines of a case file.
 use crate::cases::columns::{Column, Wanted};
 use cedar_reading::{Expected, Fault};
 use cedar_types::base::SlotId;
@@ -14,10 +14,10 @@ pub struct Field<'a> {
 /// A case: a policy or a chain of attributes, and the answers that it wants.
 #[derive(Drop)]
 pub struct Case<'a> {
-    /// Its line in the file, from 1 on.
+    /// The number of the case's line in the file, from 1 on.
     pub number: usize,
     pub line: &'a str,
-    /// The whole policy; nothing where the case has a scope and a condition.
+    /// The whole policy; empty if the case has a scope and a condition.
     pub policy: Field<'a>,
     pub scope: Field<'a>,
     pub condition: Field<'a>,
@@ -25,7 +25,7 @@ pub struct Case<'a> {
     pub slots: Vec<(SlotId, Field<'a>)>,
     /// The answers that are wanted for the policy.
     pub wanted: Vec<Expectation<'a>>,
-    /// The type that a chain begins at.
+    /// The type at which a chain begins.
     pub root: Field<'a>,
     /// The attributes of the chain, with points between them.
     pub attributes: &'a str,
@@ -49,7 +49,7 @@ pub struct CaseFile<'a> {
     pub schema: &'a str,
     /// Whether `<` and `<=` compare addresses.
     pub has_ordered_addresses: bool,
-    /// With their names.
+    /// The columns, with their names.
     pub columns: Vec<(&'a str, Column)>,
     text: &'a str,
 }
@@ -59,16 +59,15 @@ pub struct CaseFile<'a> {
 pub enum FileFault {
     /// The first line does not begin with `schema`, a tab and a name.
     NoSchema,
-    /// The first line has a third field, which is another than the one that there is.
+    /// The first line has a third field other than `ordered ipaddr`.
     NoOrder,
-    /// The second line has a name that no column has, or none beside the first, as its field of this
-    /// number, from 1 on.
+    /// The field of this number in the second line, from 1 on, is no column's name, or no name that may stand beside the first.
     NoColumn(usize),
-    /// Its field of this number has the name of a column before it.
+    /// The field of this number has the name of a column before it.
     SameColumn(usize),
 }
 
-/// The third field of the first line, where addresses are ordered.
+/// The third field of the first line, if addresses are ordered.
 const ORDERED: &str = "ordered ipaddr";
 
 /// The word of a field that asks nothing.
@@ -77,7 +76,7 @@ const NOT_ASKED: &str = "?";
 /// The word of a field for a slot that is not bound.
 const UNBOUND: &str = "-";
 
-/// How many lines there are before the cases.
+/// The number of lines before the cases.
 const HEAD: usize = 2;
 
 impl<'a> Case<'a> {
@@ -131,13 +130,13 @@ impl<'a> CaseFile<'a> {
         }))
     }
 
-    /// Whether its cases are chains of attributes.
+    /// Whether the cases are chains of attributes.
     pub fn is_about_chains(&self) -> bool {
         self.columns.iter().all(|(_, column)| column.is_of_chain())
     }
 
-    /// The byte at which a field is missing or one too many begins, and the field that is expected there.
-    /// `None` where the line has a field for each column.
+    /// The byte at which a field is missing or one too many begins, and the expected field; `None` if the line has a field for
+    /// each column.
     pub fn fault_of_fields(&self, line: &str) -> Option<(usize, Fault)> {
         let (wanted, count) = (self.columns.len(), line.split('\t').count());
         if count < wanted {
@@ -217,7 +216,7 @@ fn column_beside(name: &str, before: &[(&str, Column)]) -> Option<Column> {
     }
 }
 
-/// The byte behind the first so many fields of a line.
+/// The byte behind the first `count` fields of a line.
 fn end_of_fields(line: &str, count: usize) -> usize {
     let mut next: usize = 0;
     for field in line.split('\t').take(count) {

@@ -1,4 +1,4 @@
-// A validator's findings on the names and the scope of a policy, as a column shows them.
+// Findings of a validator on the names and the scope of a policy, as a column shows them.
 ghost use Rattle.std.specs.Iterator.{IsFinite};
 
 use crate::cases::columns::Question;

@@ -1,4 +1,4 @@
-// Case files whose cases bring their own declarations: why they are refused, if they are.
+// Case files with declarations of their own: the reason why each is refused, if it is.
 use crate::cases::differences::{agrees, write_fault};
 use crate::cases::files::FileFault;
 use crate::cases::report::CaseCounts;
@@ -10,19 +10,19 @@ use std::io::Write;
 /// The first line of such a file.
 const FIRST: &str = "schemas";
 
-/// The same where the declarations are given one by one.
+/// The first line of a file whose declarations are given one by one.
 const FIRST_AS_GIVEN: &str = "schemas\tas given";
 
-/// Its second line.
+/// The second line of such a file.
 const COLUMNS: &str = "declarations\trefusal";
 
 /// The answer if the declarations are a schema.
 const NO_REFUSAL: &str = "ok";
 
-/// How many lines there are before the cases.
+/// The number of lines before the cases.
 const HEAD: usize = 2;
 
-/// How declarations are written.
+/// The notation of declarations.
 #[derive(Clone, Copy, PartialEq, Eq, Debug)]
 pub enum Notation {
     /// In Cedar's own syntax.
@@ -31,7 +31,7 @@ pub enum Notation {
     AsGiven,
 }
 
-/// How the declarations of each case are written, where the cases of a file of this text bring their own.
+/// The notation of the declarations in each case, if the cases of a file of this text bring their own.
 pub fn notation_of(text: &str) -> Option<Notation> {
     match text.lines().next() {
         Some(FIRST) => Some(Notation::Cedar),
@@ -40,7 +40,7 @@ pub fn notation_of(text: &str) -> Option<Notation> {
     }
 }
 
-/// The fault of the second line of such a file: of all its names, since it has these two.
+/// The fault of the second line of such a file: it stands at the first name, because the line must have just these two.
 pub fn fault_of_columns(text: &str) -> Option<FileFault> {
     if text.lines().nth(1) == Some(COLUMNS) {
         None
@@ -91,8 +91,7 @@ fn run_line<W: Write>(
     agrees(name, number, "refusal", wanted, got.as_str(), out)
 }
 
-/// The declarations of a line and the refusal that is wanted; or the byte at which a field is
-/// missing or one too many begins.
+/// The declarations of a line and the wanted refusal; or the byte at which a field is missing or one too many begins.
 fn fields_of(line: &str) -> Result<(&str, &str), (usize, Fault)> {
     let Some((declarations, wanted)) = line.split_once('\t') else {
         return Err((

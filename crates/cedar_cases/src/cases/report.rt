@@ -1,4 +1,4 @@
-// The results of the cases of a file.
+// Results of the cases of a file.
 use crate::cases::answers::{Asked, in_order};
 use crate::cases::costs::run_chain;
 use crate::cases::differences::{agrees, write_fault};
@@ -12,12 +12,12 @@ use std::io;
 use std::io::Write;
 use std::rc::Rc;
 
-/// How many cases of a file ended how.
+/// Counts of the cases of a file.
 #[derive(Clone, Copy, PartialEq, Eq, Debug)]
 pub struct CaseCounts {
-    /// Those that ran.
+    /// The number of cases that ran.
     pub ran: usize,
-    /// Those of them that differ, and those that cannot be read.
+    /// The number of these that differ or cannot be read.
     pub wrong: usize,
 }
 
@@ -75,7 +75,7 @@ fn run_policy<'x, W: Write>(
     Ok(all_agree)
 }
 
-/// The text that the places of a case's policy are in.
+/// The text of the places in a case's policy.
 fn source_of<'a>(case: &Case<'a>, policy: &Template) -> Source<'a> {
     let text = match policy.loc {
         Some(_) => case.policy.text,
@@ -103,7 +103,7 @@ fn policy_of(alloc: Global, case: &Case<'_>) -> Result<Result<Policy, (usize, Fa
     Ok(Ok(Policy { template, values }))
 }
 
-/// The same with its slots as they are.
+/// The policy of a case with its slots as they are, or its fault.
 fn template_of(
     alloc: Global,
     case: &Case<'_>,

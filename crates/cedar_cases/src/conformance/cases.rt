@@ -1,4 +1,4 @@
-// A case: its question, and the answer that it wants.
+// Cases about data: the question of each, and its wanted answer.
 use crate::conformance::data::{entities_of, entity_of, record_of};
 use cedar_conformance::entity_faults::{EntityFault, EntityProblem};
 use cedar_conformance::policies::check_policy;

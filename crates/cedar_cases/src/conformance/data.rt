@@ -12,7 +12,7 @@ fn no_data() -> ReadError {
     ReadError::At(0, Fault::Expected(Expected::Other("data")))
 }
 
-/// The record that a text is.
+/// The record in a text.
 pub fn record_of(alloc: Global, text: &str) -> Result<Record, ReadError> {
     let expr = condition(alloc, text)?;
     record_in(alloc, &expr)
@@ -69,7 +69,7 @@ fn literal_value(literal: &Literal) -> Result<Value, AllocError> {
     }
 }
 
-/// The text that is the one argument.
+/// The text of the one argument.
 fn sole_text(arguments: &Vec<Expr>) -> Result<RcStr, ReadError> {
     match arguments.first() {
         Some(expr) => match &expr.kind {
@@ -80,7 +80,7 @@ fn sole_text(arguments: &Vec<Expr>) -> Result<RcStr, ReadError> {
     }
 }
 
-/// The id that an expression is.
+/// The id in an expression.
 fn id_in(expr: &Expr) -> Result<EntityUID, ReadError> {
     match &expr.kind {
         ExprKind::Lit(Literal::EntityUID(uid)) => Ok(uid.clone()?),
@@ -88,7 +88,7 @@ fn id_in(expr: &Expr) -> Result<EntityUID, ReadError> {
     }
 }
 
-/// The members of the set that an expression is.
+/// The members of a set in an expression.
 fn members_in(expr: &Expr) -> Result<&Vec<Expr>, ReadError> {
     match &expr.kind {
         ExprKind::Set(members) => Ok(members),
@@ -96,7 +96,7 @@ fn members_in(expr: &Expr) -> Result<&Vec<Expr>, ReadError> {
     }
 }
 
-/// The ids that a set has.
+/// The ids in a set.
 fn ids_in(alloc: Global, expr: &Expr) -> Result<Ids, ReadError> {
     let mut ids = Ids::new(alloc);
     for member in members_in(expr)? {

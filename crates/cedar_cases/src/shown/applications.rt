@@ -1,9 +1,9 @@
-// Whether an action applies to a principal and a resource that a scope admits.
+// Answers on whether an action applies to a principal and a resource that a scope admits.
 use crate::shown::places::{Source, push_place};
 use cedar_types::base::ValidationWarning;
 use std::alloc::{AllocError, Global};
 
-/// `applies`, or `warning` and its two flags, with its place where that is not the policy's.
+/// `applies`, or `warning` and its two flags, with its place if that is not the policy's.
 pub fn application(
     alloc: Global,
     answer: &Result<(), ValidationWarning>,

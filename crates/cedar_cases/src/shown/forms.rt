@@ -1,4 +1,4 @@
-// The forms of expressions by name.
+// Names of the forms of expressions.
 use cedar_fixtures::shown::binary_name;
 use cedar_types::base::{ExprKind, UnaryOp};
 
@@ -25,7 +25,7 @@ pub fn form_name<T>(kind: &ExprKind<T>) -> &'static str {
     }
 }
 
-/// How an operator on one operand is written.
+/// The text of an operator on one operand.
 pub fn unary_name(operator: UnaryOp) -> &'static str {
     match operator {
         UnaryOp::Not => "!",

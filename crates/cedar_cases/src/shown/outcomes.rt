@@ -1,4 +1,4 @@
-// The outcome of a check, with its errors.
+// Outcomes of a check, with its errors.
 ghost use Rattle.std.specs.Iterator.{IsFinite};
 
 use crate::shown::places::{Source, push_place};
@@ -8,7 +8,7 @@ use cedar_typing::typecheck::PolicyCheck;
 use std::alloc::{AllocError, Global};
 use std::collections::HashSet;
 
-/// `Success`, `Irrelevant` or `Fail`, and behind it each error with the text that it stands at, sorted by bytes.
+/// `Success`, `Irrelevant` or `Fail`, and behind it each error with the text at its place, sorted by bytes.
 pub fn outcome(
     alloc: Global,
     check: &PolicyCheck,
@@ -24,7 +24,7 @@ pub fn outcome(
     Ok(shown)
 }
 
-/// Whether a policy passes, and behind it each error that it has, and then each warning, sorted by bytes.
+/// Whether a policy passes, and behind it each error of the policy, and then each warning, sorted by bytes.
 pub fn policy_outcome(
     alloc: Global,
     passes: bool,
@@ -52,7 +52,7 @@ pub fn level_outcome(
     shown.as_slice().join(alloc, "; ")
 }
 
-/// How each of these is shown, sorted by bytes.
+/// The texts of these findings, sorted by bytes.
 fn sorted_texts<F: Finding + Drop, I: Iterator<Item = F> + Drop>(
     alloc: Global,
     findings: I,
@@ -69,8 +69,7 @@ fn sorted_texts<F: Finding + Drop, I: Iterator<Item = F> + Drop>(
     Ok(texts)
 }
 
-/// The errors of a pass, sorted by bytes, with `; ` between them. One without a place is shown
-/// without it.
+/// The errors of a pass, sorted by bytes, with `; ` between them. An error without a place is shown without one.
 pub fn findings(
     alloc: Global,
     errors: &[ValidationError],
@@ -98,7 +97,7 @@ fn push_all(shown: &mut String, texts: &Vec<String>) -> Result<(), AllocError> {
 
 /// An error or a warning.
 trait Finding {
-    /// Its text, and the text that it stands at.
+    /// The message of the finding, and the text at its place.
     fn show(&self, alloc: Global, source: Source<'_>) -> Result<String, AllocError>;
 }
 
@@ -120,7 +119,7 @@ impl<F: Finding> Finding for &F {
     }
 }
 
-/// The text of a finding, and the text that it stands at.
+/// A message, and the text at its place.
 fn with_place(
     mut text: String,
     place: Option<Loc>,

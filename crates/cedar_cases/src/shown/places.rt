@@ -2,11 +2,11 @@
 use cedar_types::base::Loc;
 use std::alloc::AllocError;
 
-/// The text that places are in.
+/// The text of places.
 #[derive(Clone, Copy)]
 pub struct Source<'a> {
     pub text: &'a str,
-    /// Where the policy itself stands. `None` where it has no place.
+    /// The place of the policy itself; `None` if it has none.
     pub policy: Option<Loc>,
 }
 

@@ -1,4 +1,4 @@
-// Typed conditions: each node with its type and the text that it stands at.
+// Typed conditions: each node with its type and the text at its place.
 use crate::shown::forms::form_name;
 use crate::shown::places::{Source, push_place};
 use cedar_fixtures::shown::variable_name;
@@ -19,7 +19,7 @@ enum Step<'a> {
     End(&'a Typed),
 }
 
-/// The typed copy of a policy's condition without its scope. `-` where a check has none.
+/// The typed copy of a policy's condition without its scope; `-` if a check has none.
 pub fn typed_condition(
     alloc: Global,
     check: &PolicyCheck,
@@ -49,7 +49,8 @@ pub fn typed_condition(
     Ok(shown)
 }
 
-/// The texts behind a node's head, the last first: its parts in parentheses, and its end.
+/// The texts behind a node's head: its parts in parentheses, and its end. The last is pushed first, because the stack is taken
+/// from its top.
 fn push_steps<'a>(
     alloc: Global,
     steps: &mut Vec<Step<'a>>,

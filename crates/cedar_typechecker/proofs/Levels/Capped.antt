@@ -1,4 +1,5 @@
--- A level that is counted up to the greatest number compares with a maximum, and is reported, as the level itself.
+-- A level that is counted up to the greatest number compares with a maximum, and is reported, as
+-- the level itself.
 use Rattle.std.proofs.Common.{◌≡◌, ℕ, ◌+◌, ◌≤◌, Bool, true, false, nat_lt, nat_le, refl, sym, arith}
 use Rattle.std.proofs.lemmas.Bool.{ltb-true, leb-true, le-leb, lt-ltb}
 use Rattle.cedar_typechecker.specs.Levels.Errors.{reported}

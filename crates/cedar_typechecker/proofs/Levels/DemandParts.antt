@@ -1,5 +1,6 @@
--- The demands at a node and of its parts give, at a maximum n, exactly the errors of the walk there. If they give none, n
--- meets all demands, even those that it hides.
+-- The demands at a node and of its parts give, at a maximum n, exactly the errors of the walk
+-- there. If they give none, n meets all demands, even those that it hides, because a demand is
+-- hidden only if another one is not met.
 use Rattle.std.proofs.Common.{◌≡◌, ℕ, ◌+◌, ◌≤◌, ◌<◌, max, Bool, true, false, nat_lt, nat_le, List, [], ◌∷◌, ◌++◌, map, Option, Some, None}
 use Rattle.std.proofs.Common.{suc, is_some, ◌⊎◌, inl, inr, if◌then◌else◌, refl, sym, ap, subst, ◌∙◌, arith}
 use Rattle.std.proofs.lemmas.Bool.{ltb-true, ltb-false, leb-true, leb-false, lt-ltb}
@@ -267,7 +268,7 @@ module _ (s : LevelSetting) (bounded : s.maximum ≤ 4294967295) where
   leaf_tells m literal_leaf h ds = literal_tells m h ds
   leaf_tells m bad_leaf h ds = rule_tells m h ds
 
-  -- a level as it is counted, with a cost, is demanded as the rules say
+  -- the faults of a level do not change if it is counted up to 64 bits alone
   within_same : (k j : ℕ) → k ≡ capped j → unless_within n k ≡ unless_within n j
   within_same k j e =
       subst (λ z. unless_within n z ≡ unless_within n j) (sym e)
@@ -409,7 +410,8 @@ module _ (s : LevelSetting) (bounded : s.maximum ≤ 4294967295) where
 
   -- ---- extended `has`
 
-  -- the errors below a cost are given if the cost is within the maximum, else that of the cost alone
+  -- the errors below a cost are given if the cost is within the maximum, else that of the cost
+  -- alone
   cost_tells : (m : Mark) (c : ℕ) (es : List Finding) (h : ℕ) (ds new : List Demand)
       → Tells (max h c) es (demands m.at.place (this_level c) h ds) new
       → Tells h (if nat_le c n then es else found_at s m (exceeds n c ∷ [])) ds new

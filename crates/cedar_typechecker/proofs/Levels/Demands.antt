@@ -146,7 +146,7 @@ module _ (s : LevelSetting) (bounded : s.maximum ≤ 4294967295) (root : TypedTr
       let P : List Finding → Type 0 = λ es. IsOneOf e (told s.policy s.maximum found) ↔ IsOneOf e es in
       subst P (none_hidden s.maximum (checked_errors s root)) (all_told.adds e)
 
-  -- if the walk finds nothing, the demands give no error
+  -- if the walk finds no error, the demands give none
   silent_where_walk_is : checked_errors s root ≡ [] → told s.policy s.maximum found ≡ []
   silent_where_walk_is q =
       nil_by_members (told s.policy s.maximum found) (checked_errors s root)

@@ -1,4 +1,4 @@
--- The examples of levels compute to the results that are stated.
+-- The examples of levels compute to their results.
 use Rattle.std.proofs.Common.{refl}
 use Rattle.cedar_typechecker.specs.Levels.Details.{LevelDetails}
 use Rattle.cedar_typechecker.specs.Levels.Rows.{LevelRows}

@@ -1,4 +1,4 @@
--- The outcome that the public call puts together.
+-- The outcome of validation with levels, as the public call puts it together.
 use Rattle.std.proofs.Common.{◌≡◌, ◌↔◌, true, false, true≢false, List, [], ◌∷◌, ◌++◌, map, inl, inr, option_map, refl, sym, ap, subst, ◌∙◌, append_assoc}
 use Rattle.std.specs.List.{AllByRecursion}
 use Rattle.std.specs.List.Sorted.{IsStrictlySortedBy}

@@ -177,8 +177,8 @@ module _ (b : Basis) (t : PlainTemplate) where
     λ i env m. i env (moved _ listed (IsPermutation-sym listed _ p) env m),
   )
 
-  -- if the levels that are enough for the policy are those that reach r, then r is the required level, if
-  -- it is a number of 32 bits
+  -- the required level is r, or none if r has more than 32 bits, if the levels that are enough for
+  -- the policy are those that reach r
   pub required_is : (r : Option ℕ)
       → ((n : ℕ) → n ≤ 4294967295 → PolicyIsWithinLevel b t n ↔ Reaches r n)
       → IsRequiredLevel b t (of_32_bits r)

@@ -11,7 +11,7 @@ use Rattle.cedar_typechecker.specs.Levels.Costs.{cost_of, keys_of}
 use Rattle.cedar_typechecker.specs.Levels.Dereferences.{accesses_first}
 use Rattle.cedar_typechecker.specs.Levels.Setting.{LevelSetting}
 
--- one access is spent of those that are left
+-- one of the accesses that are left is spent
 abbrev pub Spends : ℕ → (ℕ → Type 0) → Type 0
 Spends zero P = ⊥
 Spends (suc k) P = P k

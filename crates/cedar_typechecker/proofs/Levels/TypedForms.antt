@@ -1,4 +1,5 @@
--- A form whose operands are typed first keeps the property that constant tests have one branch twice.
+-- A form whose operands are typed first keeps the property that constant tests have one branch
+-- twice.
 use Rattle.std.proofs.Common.{Bool, true, false, List, [], ◌∷◌, Option, Some, None}
 use Rattle.cedar_types.specs.declared.base.expressions.operators.BinaryOp.{BinaryOp}
 use Rattle.cedar_types.specs.declared.base.expressions.operators.UnaryOp.{UnaryOp}

@@ -14,7 +14,7 @@ use Rattle.cedar_typechecker.proofs.Slices.Ids.{Selected, select_found, entry_id
 use Rattle.cedar_typechecker.proofs.Slices.Same.{IsReached, value_map}
 use Rattle.cedar_typechecker.proofs.Slices.Stores.{Agrees, IsSameValueIn, same_value}
 
--- ---- what a base is
+-- ---- the kind of a base
 
 abbrev pub IsEntity : Value → Type 0
 IsEntity = OnEntity (λ u. Unit {0})
@@ -30,7 +30,7 @@ some_record : (Q : Entries → Type 0) (v : Value) → OnRecord Q v → IsRecord
 some_record Q (VRecord es) h = tt
 some_record Q v h = absurd h
 
--- it is an entity or a record, by its type
+-- the base is an entity or a record, by its type
 by_base : (found : Option Ty) (o : Outcome) (X Y Z : Type 0) → HasFound found o
     → ByBase (base_of found) X Y → (OnValue IsEntity o → X → Z) → (OnValue IsRecord o → Y → Z) → Z
 by_base None o X Y Z h b f g = absurd b
@@ -38,12 +38,12 @@ by_base (Some (TEntity ps)) o X Y Z h b f g = f (value_map o (some_entity _) h) 
 by_base (Some (TRecord xs p)) o X Y Z h b f g = g (value_map o (some_record _) h) b
 by_base (Some t) o X Y Z h b f g = absurd b
 
--- what is spent was there
+-- the number from which an access is spent is not 0
 pub spent : (n : ℕ) (P : ℕ → Type 0) → Spends n P → (k : ℕ) × (n ≡ suc k) × P k
 spent zero P h = absurd h
 spent (suc k) P h = (k, refl, h)
 
--- ---- in two stores that have the same of the base
+-- ---- in two stores that agree on the base
 
 module _ (store part : Store) where
   record_alike : (v : Value) → IsRecord v → IsSameValueIn part store v
@@ -69,7 +69,7 @@ module _ (store part : Store) where
     got_alike (Gives v) h = get_alike v h
     got_alike (Fails f) h = refl
 
--- ---- in a part that agrees on what is reached
+-- ---- in a part that agrees on the entities that are reached
 
 module _ (q : Request) (store part : Store) (n : ℕ) (P : ℕ → Uid → Type 0)
     (a : Agrees q store part n P) where
@@ -78,7 +78,8 @@ module _ (q : Request) (store part : Store) (n : ℕ) (P : ℕ → Uid → Type 
   reached_alike k lt path o h = value_map o (same_value q store part n P a k lt path) h
 
   module _ (x : Text) where
-    -- what a record has along x and the path, its attribute has along the path
+    -- the ids that a record holds along x and the path are those that its attribute x holds along
+    -- the path
     got_of_record : (k : ℕ) (path : List Text) (o : Outcome) → OnValue IsRecord o
         → OnValue (Selected (P k) (x ∷ path)) o
         → OnValue (Selected (P k) path) (on_value o (get store x))
@@ -86,7 +87,7 @@ module _ (q : Request) (store part : Store) (n : ℕ) (P : ℕ → Uid → Type 
     got_of_record k path (Gives v) h i = absurd h
     got_of_record k path (Fails f) h i = tt
 
-    -- what an entity has is reached in one more step
+    -- the ids that an entity holds are reached in one more step than the entity
     pub entity_got : (k : ℕ) (path : List Text) (u : Uid) → P k u
         → (e : Option Entity) → entity_at store u ≡ e
         → OnValue (Selected (P (suc k)) path) (entity_get e x)
@@ -105,7 +106,7 @@ module _ (q : Request) (store part : Store) (n : ℕ) (P : ℕ → Uid → Type 
     got_of_entity k path (Gives v) h i = absurd h
     got_of_entity k path (Fails f) h i = tt
 
-    -- ---- by what the base is
+    -- ---- by the kind of the base
 
     module _ (found : Option Ty) (o o' : Outcome) (h : HasFound found o)
         (targeted : List Text → ℕ → Type 0) (silent : Type 0)

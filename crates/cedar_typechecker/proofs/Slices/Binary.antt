@@ -28,7 +28,7 @@ use Rattle.cedar_typechecker.proofs.Slices.Operands.{two_same}
 use Rattle.cedar_typechecker.proofs.Slices.Same.{IsReached, IsSame}
 use Rattle.cedar_typechecker.proofs.Slices.Stores.{Agrees, IsSameValueIn}
 
--- ---- in two stores that have the same of the first operand
+-- ---- in two stores that agree on the first operand
 
 module _ (store part : Store) (fns : Interpretation) where
   module _ (u : Uid) (e : entity_at part u ≡ entity_at store u) where
@@ -137,7 +137,7 @@ module _ (q : Request) (store part : Store) (s : LevelSetting) (P : ℕ → Uid 
 
     module _ (u v : Ty) (c c' : Caps) (y z : TypedTree) (d : J.derives u c y)
         (d' : J'.derives v c' z) where
-      -- one that accesses the first operand
+      -- an operator that accesses the first operand
       accessed : (op : BinaryOp) → Spends s.maximum (Targeted s y []) × Silent s z
           → there op o' p' ≡ here op o p
       accessed op h =

@@ -25,7 +25,7 @@ use Rattle.cedar_typechecker.proofs.Slices.ChainValues.{cost_from, declared_cost
 use Rattle.cedar_typechecker.proofs.Slices.Ids.{Selected, SelectedIn}
 use Rattle.cedar_typechecker.proofs.Slices.Stores.{Agrees}
 
--- a type is one of an entity, of a record, or of neither
+-- a type is of an entity, of a record, or of neither, and only one of these
 pub entity_not_record : (s : Ty) (X : Type 0) → base_of_type s ≡ an_entity
     → base_of_type s ≡ a_record → X
 entity_not_record s X e f = cc
@@ -38,11 +38,12 @@ record_not_neither : (s : Ty) (X : Type 0) → base_of_type s ≡ a_record
     → base_of_type s ≡ neither → X
 record_not_neither s X e f = cc
 
--- within a cost, what a value has along a path is reached
+-- the ids that a value holds along a path are reached in k steps, and k with the cost is at most n
 abbrev pub IsReachedAlong : ℕ → (ℕ → Uid → Type 0) → ℕ → Value → List Text → Type 0
 IsReachedAlong n P cost v path = (k : ℕ) × (k + cost ≤ n) × Selected (P k) path v
 
--- along the keys to the first entity, if there is one before the last
+-- the ids along the keys to the first entity are so reached, if an entity comes before the last
+-- attribute
 abbrev pub IsKnown : ℕ → (ℕ → Uid → Type 0) → Schema → Ty → Text → List Text → Value → Type 0
 IsKnown n P schema s x xs v =
     OnKeysOf (keys_to_entity schema s x xs) (IsReachedAlong n P (steps_cost schema s x xs) v)
@@ -69,7 +70,8 @@ module _ (n : ℕ) (P : ℕ → Uid → Type 0) (schema : Schema) (u : Ty) (y : 
   KnownIn None = Unit {0}
   KnownIn (Some w) = IsKnown n P schema u y ys w
 
-  -- an entity's ids are reached, and of a record it is known along the further keys
+  -- the attribute is an entity, whose ids are reached; a record, whose ids are reached along the
+  -- further keys; or neither
   data AtNext (o : Option Value) : Type 0 where
     met : (k : ℕ) → base_of_type u ≡ an_entity → k + (1 + cost) ≤ n → SelectedIn (P k) [] o
         → AtNext o

@@ -16,7 +16,7 @@ use Rattle.cedar_typing.specs.TypeTests.{is_false, is_record}
 use Rattle.cedar_typing.specs.TypedExpr.{Source}
 use Rattle.cedar_typing.proofs.Soundness.Chains.Steps.{declared_not_false, false_if}
 
--- ---- what gives a type
+-- ---- decisions that give a type
 
 module _ (t : Ty) (c : Caps) where
   object_given : (b : Bool) (d : Decision) (u : Option Ty) (fs : List Finding)
@@ -66,14 +66,14 @@ got_declared env total l x known s None u k h =
 
 -- ---- a step that is not the last
 
--- it is False only of an attribute that can't be there
+-- a step is False only if its attribute cannot be there
 step_false : (env : TypeEnv) (s : Ty) (x : Text) (known : Bool) (a : Option (Ty × Bool))
     → is_false (step_type env s x known a) ≡ true → may_have env.schema s x ≡ false
 step_false env s x known (Some a) h =
     absurd (declared_not_false (known || (a.1 && is_record s)) h)
 step_false env s x known None h = false_if (may_have env.schema s x) h
 
--- else the attribute is declared, and the rest of the chain is derived too
+-- a chain goes on after a step: its attribute is declared, and the rest of the chain is derived too
 pub record GoesOn (env : TypeEnv) (l : Option Loc) (prior : Caps) (y : Text) (ys : List Text)
     (e : Source) (s : Ty) (x : Text) (t : Ty) (c : Caps) : Type 0 where
   pub attribute : Ty
@@ -84,7 +84,7 @@ pub record GoesOn (env : TypeEnv) (l : Option Loc) (prior : Caps) (y : Text) (ys
 
 module _ (env : TypeEnv) (total : is_partial env.mode ≡ false) (prior : Caps) (t : Ty)
     (c : Caps) where
-  -- each step is of a record or an entity
+  -- each step of a chain that is derived is on a record or an entity
   pub step_object : (l l' : Option Loc) (xs : List Text) (e : Source) (s : Ty) (x : Text)
       (p : Progress) → chain env l l' prior xs e s x p ≡ gives t c → is_object s ≡ true
   step_object l l' [] e s x p h = (object_given t c (is_object s) _ _ _ h).0
@@ -94,7 +94,7 @@ module _ (env : TypeEnv) (total : is_partial env.mode ≡ false) (prior : Caps) 
     abbrev found : Option (Ty × Bool)
     found = attribute_type env.schema s x
 
-    -- what is known before the step, its type, and the progress after it
+    -- whether the attribute is known before the step, the step's type, and the progress after it
     abbrev known_before : Bool
     known_before = union prior p.earned (attribute_of e x)
 

@@ -1,4 +1,5 @@
--- Extended `has` of a value whose ids are all reached: it says the same in the part of a store.
+-- Extended `has` of a value whose ids are all reached: it has one outcome over the store and over
+-- the part.
 use Rattle.std.proofs.Common.{◌≡◌, ℕ, suc, ◌+◌, ◌≤◌, Bool, false, true, List, [], ◌∷◌, Option, Some, inl, inr, refl, sym, ◌∙◌, ap, subst}
 use Rattle.std.proofs.Common.{arith}
 use Rattle.cedar_types.specs.declared.base.location.Loc.{Loc}
@@ -25,7 +26,7 @@ use Rattle.cedar_typechecker.proofs.Slices.ChainSteps.{GoesOn, step_object, step
 use Rattle.cedar_typechecker.proofs.Slices.Ids.{Selected, entry_ids, select_entity, attribute_ids}
 use Rattle.cedar_typechecker.proofs.Slices.Stores.{Agrees, IsSameValueIn}
 
--- what is used of the types that bases of extended `has` have
+-- the facts that the proofs use about N, the types of bases of extended `has`
 pub record AreKept (env : TypeEnv) (store : Store) (N : Ty → Type 0) : Type 0 where
   -- no such type is any entity, and the attributes that are accessed have such types
   pub no_any_entity : N TAnyEntity → ⊥
@@ -33,7 +34,7 @@ pub record AreKept (env : TypeEnv) (store : Store) (N : Ty → Type 0) : Type 0 
       → attribute_type env.schema s x ≡ Some (u, r) → N u
   pub typed : (s u : Ty) (r : Bool) (x : Text) (v : Value) → N s → HasType s v
       → attribute_type env.schema s x ≡ Some (u, r) → OnValue (HasType u) (get store x v)
-  -- a value has no attribute that its type can't have
+  -- a value has no attribute that its type cannot have
   pub absent : (s : Ty) (x : Text) (v : Value) → N s → is_object s ≡ true → HasType s v
       → may_have env.schema s x ≡ false → has_test store x v ≡ Says false
 
@@ -60,7 +61,7 @@ module _ (N : Ty → Type 0) (no_any_entity : N TAnyEntity → ⊥) where
 
 -- ---- costs
 
--- of a value of a type and what comes after
+-- the cost of a value of the type s, and of the attributes after it
 abbrev pub cost_from : Schema → Ty → Text → List Text → ℕ
 cost_from schema s x xs = entity_cost (base_of_type s) + steps_cost schema s x xs
 
@@ -72,7 +73,7 @@ declared_cost schema s x y ys u r f =
 
 -- ---- one step and the rest
 
--- both stores say the same of a value along attributes
+-- a test of a value along attributes has one outcome over both stores
 abbrev pub IsTestedAlike : Store → Store → Text → List Text → Value → Type 0
 IsTestedAlike store part x xs v = path_test part x xs v ≡ path_test store x xs v
 
@@ -103,7 +104,8 @@ module _ (q : Request) (store part : Store) (n : ℕ) (P : ℕ → Uid → Type 
   abbrev IsAlike : Text → List Text → Value → Type 0
   IsAlike = IsTestedAlike store part
 
-  -- both ways of a step: the attribute can't be there, or the rest says the same
+  -- both ways of a step: the attribute cannot be there, or the rest has one outcome over both
+  -- stores
   pub by_step : (l l' : Option Loc) (y : Text) (ys : List Text) (e : Source) (s : Ty) (x : Text)
       (p : Progress) (v : Value) → N s → HasType s v
       → chain env l l' prior (y ∷ ys) e s x p ≡ gives t c → IsSameValueIn part store v
@@ -117,7 +119,7 @@ module _ (q : Request) (store part : Store) (n : ℕ) (P : ℕ → Uid → Type 
         | inr g ↦ step_alike store part x y ys v same (rest g)
       ]
 
-  -- ---- from a value whose ids are reached, where the cost is left
+  -- ---- from a value whose ids are reached, with steps left for the cost
 
   pub reached_path : (l l' : Option Loc) (xs : List Text) (e : Source) (s : Ty) (x : Text)
       (p : Progress) (v : Value) (k : ℕ) → N s → HasType s v

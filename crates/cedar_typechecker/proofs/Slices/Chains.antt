@@ -1,4 +1,4 @@
--- Extended `has` evaluates to the same in the part of a store.
+-- Extended `has` evaluates over the part of a store as over the whole store.
 use Rattle.std.proofs.Common.{◌≡◌, ℕ, ◌+◌, ◌≤◌, false, true, List, [], Option, Some, None, refl, ◌∙◌, ap, arith}
 use Rattle.cedar_types.specs.declared.base.location.Loc.{Loc}
 use Rattle.cedar_types.specs.Names.{Text, Uid}
@@ -31,7 +31,7 @@ use Rattle.cedar_typechecker.proofs.Slices.Ids.{Selected}
 use Rattle.cedar_typechecker.proofs.Slices.Same.{IsReached, IsSame}
 use Rattle.cedar_typechecker.proofs.Slices.Stores.{Agrees}
 
--- the type that was found is such a type
+-- the type that was found, if there is one, is in N
 abbrev pub IsKeptType : (Ty → Type 0) → Option Ty → Type 0
 IsKeptType N None = Unit {0}
 IsKeptType N (Some s) = N s
@@ -74,7 +74,7 @@ module _ (q : Request) (store part : Store) (n : ℕ) (P : ℕ → Uid → Type 
     whole f h =
         ap (λ z. of_test (then_test z (path_test part x xs))) f ∙ ap of_test (by_value o h)
 
-    -- what the target at the keys says
+    -- the ids of the target at the keys are reached
     known_at : (cost : ℕ) (keys : Option (List Text))
         → OnKeysOf keys (λ path. Leaves n (0 + cost) (targeted path))
         → OnValue (λ v. OnKeysOf keys (Along cost v)) o

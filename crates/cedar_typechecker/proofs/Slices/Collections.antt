@@ -22,7 +22,7 @@ use Rattle.cedar_typechecker.proofs.Levels.Silent.{IfSo, Silent, AllSilent, Fiel
 use Rattle.cedar_typechecker.proofs.Slices.Ids.{Selected, SelectedIn}
 use Rattle.cedar_typechecker.proofs.Slices.Same.{IsReached, IsSame}
 
--- what the entries have along a key and a path, if there are some
+-- Q holds of each id that the entries hold along a key and a path, if evaluation gives entries
 abbrev pub EntriesSelect : (Uid → Type 0) → Text → List Text → EntryOutcomes → Type 0
 EntriesSelect Q p path (GiveEntries es) = SelectedIn Q path (entry_at p es)
 EntriesSelect Q p path (FailEntry f) = Unit {0}

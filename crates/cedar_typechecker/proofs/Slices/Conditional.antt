@@ -1,4 +1,4 @@
--- `if`, `&&` and `||` evaluate to the same in the part of a store.
+-- `if`, `&&` and `||` evaluate over the part of a store as over the whole store.
 use Rattle.std.proofs.Common.{◌≡◌, ℕ, ◌≤◌, true, List, Option, Some, refl, sym, ◌∙◌, ap, subst}
 use Rattle.cedar_types.specs.declared.base.location.Loc.{Loc}
 use Rattle.cedar_types.specs.declared.base.types.BoolType.TheVariants.{True, False}
@@ -25,7 +25,7 @@ use Rattle.cedar_typechecker.proofs.Slices.Same.{IsTold, IsToldLeft, IsReached, 
 use Rattle.cedar_typechecker.proofs.Slices.Same.{chosen_open, and_left_false, or_left_true, and_sides}
 
 module _ (s : LevelSetting) (P : ℕ → Uid → Type 0) where
-  -- ---- where a node stands does not matter
+  -- ---- the place of a node does not matter
 
   pub silent_placed : (l : Option Loc) (x : TypedTree) → Silent s (at_place l x) → Silent s x
   silent_placed l (lit m x) h = h
@@ -47,7 +47,7 @@ module _ (s : LevelSetting) (P : ℕ → Uid → Type 0) where
     abbrev Whole : Judgment
     Whole = if_rules env m l A B E prior
 
-    -- what is shown of the branches (Q) where no error is found in them (S) is shown of the whole
+    -- Q is proved of the whole if it is proved of each branch in which no error is found (S)
     module _ (S W : TypedTree → Type 0)
         (parts : (k : Mark) (a b e : TypedTree) → W (if_then_else k a b e)
         → Silent s a × S b × S e)

@@ -1,5 +1,6 @@
--- A policy's condition and its typed copies in a part of a store, by what is known in the environment that links each slot to its
--- variable's own type: whatever the slots are bound to.
+-- A policy's condition and its typed copies over a part of a store, from facts about the
+-- environment that links each slot to its variable's own type. The slots may be bound to any
+-- entities.
 use Rattle.std.proofs.Common.{◌≡◌, inl, ℕ, ◌+◌, true≢false, Option, Some, None, refl, sym, ◌∙◌, subst}
 use Rattle.cedar_types.specs.declared.base.expressions.operators.BinaryOp.{BinaryOp}
 use Rattle.cedar_types.specs.declared.base.expressions.operators.Var.{Var}
@@ -81,7 +82,8 @@ module _ (s : Setting) (t : PlainTemplate) (d : DeclaredEnv) (world : World) (n 
   abbrev Same : Outcome → Outcome → Judgment → Type 0
   Same = IsSame levels Reached
 
-  -- the copies of an expression in the part evaluate as it does there, where something is looked at in them
+  -- the copies of an expression that are within the level evaluate over the part as the expression
+  -- does there
   abbrev Copied : Outcome → Judgment → Type 0
   Copied = Copies (Loaded levels) ⊥ other
 
@@ -91,8 +93,8 @@ module _ (s : Setting) (t : PlainTemplate) (d : DeclaredEnv) (world : World) (n 
   both_agree : Agrees world.request world.store part n Reached
   both_agree = stores_agree world.request world.store part n holds
 
-  -- what is known of each expression in the world with own slots: it is the same where both slots are linked, and typing can be
-  -- relied on in the own environment
+  -- the facts about each expression in the world with own slots: it evaluates over the part as over
+  -- the store if both slots are linked, and typing can be relied on in the own environment
   abbrev pub IsSameWhereLinked : Type 0
   IsSameWhereLinked =
       (e : Source) (prior : Caps) (k : ℕ) → AllHold own_bound prior
@@ -104,7 +106,7 @@ module _ (s : Setting) (t : PlainTemplate) (d : DeclaredEnv) (world : World) (n 
       → Sounds own_bound (eval own_bound e) (rules own e prior k)
 
   module _ (linked_same : IsSameWhereLinked) (own_sound : IsSoundInOwn) where
-    -- ---- what mentions no slot
+    -- ---- expressions that mention no slot
 
     module _ (e : Source) (free : MentionsNoSlot e) where
       same_outcome : (w : World) → eval w e ≡ eval (own_world w) e
@@ -150,7 +152,8 @@ module _ (s : Setting) (t : PlainTemplate) (d : DeclaredEnv) (world : World) (n 
 
     -- ---- parts of a condition
 
-    -- what is shown of a part: in the world it is false, or what it is with own slots; and in the part of the store it is the same
+    -- the property that is proved of a part of the condition: its outcome in the world is false, or
+    -- that with own slots; and over the part of the store it is that in the world
     record IsGood (e : Source) : Type 0 where
       pub lower : IsAtMost ⊥ (eval world e) (eval own_bound e)
       pub same : (prior : Caps) (k : ℕ) → AllHold own_bound prior → Same (eval world e) (eval other e) (rules own e prior k)
@@ -276,7 +279,8 @@ module _ (s : Setting) (t : PlainTemplate) (d : DeclaredEnv) (world : World) (n 
         (free (action_scope_at t.place t.action) (λ y. no_action t.place y t.action)))
         (scope_good t.place Var.Resource SlotId.Resource world.request.resource own_resource t.resource z.1))
 
-    -- what is derived in the own environment, and within the level there, is the same in the part, and so is its copy
+    -- a condition that is derived in the own environment, and is within the level there, evaluates
+    -- over the part as over the store, and so does its copy
     module _ (h : SlotsInScopeAlone t) (b : SlotsBound world.slots (condition_of t)) where
       same_derived : (u : Ty) (c : Caps) (x : TypedTree) → Derives own (condition_of t) no_caps 1 u c x → Silent levels x
           → eval other (condition_of t) ≡ eval world (condition_of t)

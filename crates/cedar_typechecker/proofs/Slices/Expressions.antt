@@ -1,4 +1,4 @@
--- Slice soundness of expressions, where both slots are linked.
+-- Slice soundness of expressions, if both slots are linked.
 use Rattle.std.proofs.Common.{◌≡◌, ℕ, ◌≤◌, Bool, ◌||◌, true, false, None, refl, sym, subst, arith}
 use Rattle.cedar_types.specs.declared.base.types.BoolType.TheVariants.{True}
 use Rattle.cedar_types.specs.Types.Bounds.{is_strict}
@@ -38,7 +38,7 @@ use Rattle.cedar_typechecker.proofs.Slices.Same.{IsTold, IsSame}
 use Rattle.cedar_typechecker.proofs.Slices.Stores.{Agrees, Within, agrees as stores_agree}
 use Rattle.cedar_typechecker.proofs.Slices.TargetLevels.{target_level, targeted_of}
 
--- in Strict nothing is asked of the schema's types, in Permissive they are formed
+-- the schema's types must be formed in Permissive, and may be any in Strict
 module _ (strictly : Bool) (s : Setting) (world : World) (n : ℕ) (part : Store)
     (strict : is_strict s.env.mode ≡ strictly) (total : is_partial s.env.mode ≡ false)
     (formed : (strictly || has_formed_types s.env.schema) ≡ true)
@@ -58,7 +58,8 @@ module _ (strictly : Bool) (s : Setting) (world : World) (n : ℕ) (part : Store
 
   -- ---- the types that are found
 
-  -- any entity stands nowhere in such a type, and the values of its attributes have their types
+  -- the type any entity is nowhere in such a type, and the values of its attributes have their
+  -- types
   abbrev IsFound : Ty → Type 0
   IsFound t = IsKept no_any_entity t × KeptIn strictly t
 
@@ -129,7 +130,7 @@ module _ (strictly : Bool) (s : Setting) (world : World) (n : ℕ) (part : Store
 
 -- ---- the promises
 
--- all expressions, by what is known where typing can be relied on
+-- each expression evaluates over the part as over the store, if typing can be relied on
 abbrev AllSame : Setting → World → ℕ → Store → Type 0
 AllSame s world n part =
     (e : Source) → SlotsBound world.slots e → (prior : Caps) (d : ℕ) → AllHold world prior

@@ -1,5 +1,5 @@
--- Forms with one operand, and those that evaluate all operands: in a part of a store that agrees on
--- what is reached, they evaluate to the same.
+-- Forms with one operand, and those that evaluate all operands: they evaluate over a part that
+-- agrees on the entities that are reached as over the whole store.
 use Rattle.std.proofs.Common.{◌≡◌, ℕ, List, [], ◌∷◌, Option, ap}
 use Rattle.cedar_types.specs.declared.base.expressions.operators.UnaryOp.{UnaryOp}
 use Rattle.cedar_types.specs.declared.base.location.Loc.{Loc}

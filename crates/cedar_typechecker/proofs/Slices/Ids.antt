@@ -9,11 +9,12 @@ use Rattle.cedar_typechecker.specs.Slices.Reach.{ids_in, ids_in_entries}
 use Rattle.cedar_typechecker.specs.Slices.Soundness.{ids_found, ids_along}
 
 module _ (P : Uid → Type 0) where
-  -- it holds of each id in the part of a value that a path selects: along no path, of each inside
+  -- P holds of each id in the part of a value that a path selects; along the empty path, of each id
+  -- inside the value
   abbrev pub Selected : List Text → Value → Type 0
   Selected path v = AreAll P (ids_along path v)
 
-  -- of each in a value that is found, if it is
+  -- P holds of each such id, if a value is found
   abbrev pub SelectedIn : List Text → Option Value → Type 0
   SelectedIn path o = AreAll P (ids_found (ids_along path) o)
 
@@ -59,7 +60,7 @@ module _ (P : Uid → Type 0) where
   select_bool [] b = λ u i. absurd i
   select_bool (x ∷ path) b = λ u i. absurd i
 
-  -- ---- what an attribute or a tag gives
+  -- ---- the value of an attribute or of a tag
 
   pub attribute_ids : (path : List Text) (o : Option Value) → SelectedIn path o
       → OnValue (Selected path) (attribute_value o)

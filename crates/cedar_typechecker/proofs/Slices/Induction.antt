@@ -1,5 +1,5 @@
--- What is within a level evaluates to the same in each part of a store that holds the slice of that
--- many steps: all expressions.
+-- Each expression within a level evaluates over each part of a store that holds the slice of as
+-- many steps as over the whole store.
 use Rattle.std.proofs.Common.{ℕ, ◌+◌, Bool, true, List, []}
 use Rattle.cedar_types.specs.Names.{Text, Uid}
 use Rattle.cedar_types.specs.Values.Stores.{Store}

@@ -1,5 +1,5 @@
--- Expressions without parts, and what stands within the limit of depth: in a part of a store that
--- agrees on what is reached, they evaluate to the same.
+-- Expressions without parts, and expressions within the limit of depth: they evaluate over a part
+-- that agrees on the entities that are reached as over the whole store.
 use Rattle.std.proofs.Common.{◌≡◌, ℕ, List, Option, Some, refl, sym, ◌∙◌, subst}
 use Rattle.cedar_types.specs.declared.base.expressions.operators.Var.{Var}
 use Rattle.cedar_types.specs.declared.base.names.slots.SlotId.{SlotId}
@@ -28,7 +28,7 @@ use Rattle.cedar_typechecker.proofs.Slices.Stores.{Agrees}
 
 module _ (s : Setting) (world : World) (part : Store) (n : ℕ) (P : ℕ → Uid → Type 0)
     (a : Agrees world.request world.store part n P) where
-  -- what is to be shown of an expression
+  -- the property that is proved of an expression
   abbrev pub Same : Outcome → Outcome → Judgment → Type 0
   Same = IsSame (levels_in s n) P
 

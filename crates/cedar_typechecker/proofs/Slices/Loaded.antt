@@ -1,5 +1,5 @@
--- What is looked at of a typed expression without level errors: it has none, or it is a target of one that has none. So it is with
--- its parts.
+-- Typed expressions that are loaded: they have no level errors, or are targets in an expression
+-- that has none. Their parts are loaded too.
 use Rattle.std.proofs.Common.{◌⊎◌, inl, inr, ℕ, zero, suc, ◌+◌, ◌≤◌, Bool, true, false, List, [], ◌∷◌, Option, arith}
 use Rattle.cedar_types.specs.declared.base.expressions.operators.BinaryOp.{BinaryOp}
 use Rattle.cedar_types.specs.declared.base.expressions.operators.UnaryOp.{UnaryOp}
@@ -17,7 +17,7 @@ use Rattle.cedar_typechecker.proofs.Levels.Silent.{Targeted, FieldTargeted}
 use Rattle.cedar_typing.proofs.TypedCopies.Same.{AllOf, FieldsOf, IsClosed}
 
 module _ (s : LevelSetting) where
-  -- a target at some level that is no greater than the maximum
+  -- the expression is a target of some level that is no greater than the maximum
   abbrev pub IsAim : TypedTree → Type 0
   IsAim x = (path : List Text) × (k : ℕ) × (k ≤ s.maximum) × Targeted s x path k
 

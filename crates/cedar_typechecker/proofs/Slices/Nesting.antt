@@ -1,4 +1,4 @@
--- What is visited stands no deeper than the whole is nested.
+-- Each part that is visited stands no deeper than the whole is nested.
 use Rattle.std.proofs.Common.{ℕ, suc, ◌+◌, ◌≤◌, Bool, true, false, arith}
 use Rattle.std.proofs.Math.Nat.{le-max_left, le-max_right}
 use Rattle.std.specs.Prelude.{max}
@@ -23,7 +23,7 @@ nested : (e : Source) → 1 ≤ nesting e
 nested (lit m x) = omega arith
 nested e = omega arith
 
--- of one part, and of one of two
+-- a bound on the depth of one part, and of one of two, is one on the whole
 deeper : (k d n : ℕ) → k + 1 ≤ d + 1 + n → k + 1 ≤ d + suc n
 deeper k d n h = omega (arith, h)
 

@@ -1,4 +1,4 @@
--- Forms with one operand or two: what is shown of the operands is shown of the whole.
+-- Forms with one operand or two: the whole has the property that is proved of its operands.
 use Rattle.std.proofs.Common.{◌≡◌, ℕ, ◌≤◌, List, [], ◌∷◌, Option}
 use Rattle.cedar_types.specs.declared.base.location.Loc.{Loc}
 use Rattle.cedar_types.specs.Names.{Text, Uid}
@@ -23,7 +23,7 @@ module _ (s : LevelSetting) (P : ℕ → Uid → Type 0) (env : TypeEnv) (f : Fo
   abbrev IsTargeted : Ty → List TypedTree → List Text → ℕ → Type 0
   IsTargeted t xs = Targeted s (f.node (typed t f.at) xs)
 
-  -- what a form with one operand has to show, by a typed copy of the operand
+  -- the obligations for a form with one operand, by a typed copy of the operand
   pub record OneSame (J : Judgment) : Type 0 where
     pub checked : (t u : Ty) (c : Caps) (y : TypedTree) → J.derives u c y → IsSilent t (y ∷ [])
         → o' ≡ o
@@ -48,7 +48,7 @@ module _ (s : LevelSetting) (P : ℕ → Uid → Type 0) (env : TypeEnv) (f : Fo
     pub one_same : IsSame s P o o' One
     one_same = record { checked = one_checked; target = one_target }
 
-  -- the same of two operands
+  -- the obligations for a form with two operands
   pub record TwoSame (J J' : Judgment) : Type 0 where
     pub checked : (t u v : Ty) (c c' : Caps) (y z : TypedTree) → J.derives u c y
         → J'.derives v c' z → IsSilent t (y ∷ z ∷ []) → o' ≡ o

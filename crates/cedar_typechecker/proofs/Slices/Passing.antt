@@ -1,4 +1,5 @@
--- A policy that passes keeps both halves of the promise where no error is of names or of levels, and at its required level.
+-- A policy that passes keeps both halves of the promise if no error is of names or of levels, and
+-- at its required level.
 use Rattle.std.proofs.Common.{◌≡◌, inl, inr, ℕ, Bool, true, false, true≢false, nat_lt, nat_le, if◌then◌else◌, List, [], ◌∷◌, ◌++◌, map, Option, Some, None}
 use Rattle.std.proofs.Common.{refl, sym, ◌∙◌, ap, subst}
 use Rattle.std.proofs.lemmas.List.Sorted.{IsPermutation-sym}
@@ -39,7 +40,7 @@ use Rattle.cedar_typechecker.proofs.Slices.Policies.{passing_needs_slice_alone}
 use Rattle.cedar_typechecker.proofs.Slices.Validation.{listed_within, IsWithin}
 use Rattle.cedar_typechecker.proofs.Validations.{nothing_in}
 
--- ---- what the rules of levels find is of levels
+-- ---- the faults of the rules of levels are of levels
 
 abbrev AreOfLevels : List Fault → Type 0
 AreOfLevels fs = (f : Fault) → IsOneOf f fs → is_of_names_or_levels f ≡ true
@@ -76,7 +77,7 @@ module _ (s : LevelSetting) where
   chain_faults a_record c b o = if_either (nat_le c s.maximum) _ _ (keys_faults b o c) (one_is _ refl)
   chain_faults neither c b o = none_are
 
-  -- of a checked expression
+  -- the faults of a checked expression
   checked_faults : (x : TypedTree) → AreOfLevels (faults s x)
   checked_faults (binary m o a b) =
       if_either (accesses_first o) _ [] (below_faults s.maximum (level s.action a [])) none_are
@@ -87,7 +88,7 @@ module _ (s : LevelSetting) where
       (keys_of s.schema (annotation a) x xs)
   checked_faults x = none_are
 
-  -- of a target
+  -- the faults of a leaf
   leaf_faults : (l : Leaf) → AreOfLevels (faults_at_leaf l)
   leaf_faults good_leaf = none_are
   leaf_faults literal_leaf = one_is _ refl
@@ -113,7 +114,7 @@ in_some levels (env ∷ envs) [] e h = absurd h
 in_some levels (env ∷ envs) (v ∷ vs) e (inl h) = of_verdict (levels env) v e h
 in_some levels (env ∷ envs) (v ∷ vs) e (inr h) = in_some levels envs vs e h
 
--- ---- what the passes over names find is of names
+-- ---- the faults of the passes over names are of names
 
 module _ {A : Type 0} (f : A → Finding) (q : (a : A) → is_of_names_or_levels (f a).fault ≡ true) where
   of_mapped : (xs : List A) (e : Finding) → IsOneOf e (map f xs) → is_of_names_or_levels e.fault ≡ true
@@ -121,7 +122,7 @@ module _ {A : Type 0} (f : A → Finding) (q : (a : A) → is_of_names_or_levels
   of_mapped (x ∷ xs) e (inl p) = ap (λ (z : Finding). is_of_names_or_levels z.fault) p ∙ q x
   of_mapped (x ∷ xs) e (inr h) = of_mapped xs e h
 
--- ---- where no error is one of these
+-- ---- no error is one of these
 
 module _ (found : List Finding) (quiet : NoneOfNamesOrLevels found) where
   not_there : (e : Finding) → IsOneOf e found → is_of_names_or_levels e.fault ≡ true → ⊥
@@ -155,7 +156,7 @@ module _ (found : List Finding) (quiet : NoneOfNamesOrLevels found) where
     abbrev names : List Finding
     names = name_findings b.mode b.schema t
 
-    -- what is found is among the errors
+    -- each finding is among the errors
     among : (e : Finding) → IsOneOf e (names ++ (o.type_errors ++ o.level_errors)) → IsOneOf e found
     among =
         moved (names ++ (o.type_errors ++ o.level_errors)) found
@@ -184,7 +185,7 @@ module _ (found : List Finding) (quiet : NoneOfNamesOrLevels found) where
 module _ (b : Basis) (t : PlainTemplate) (schema : has_fault b.schema ≡ false)
     (formed : IsFormedFor b.mode b.schema) (functions : table_fault b.table.functions ≡ None) (errors errors' : List Finding)
     (old new : List Warning) (passed : CheckedOn b t true errors errors' old new) where
-  -- both halves of the promise, where the policy is within the level and its names are known
+  -- both halves of the promise hold if the policy is within the level and its names are known
   kept : (n : ℕ) → PolicyIsWithinLevel b t n → IsSoundAndClosed b → IsNamedBySchema b.schema t
       → (world : World) → IsWellFormed t world.slots → IsConforming b world
       → IsKeptInSlices t n world

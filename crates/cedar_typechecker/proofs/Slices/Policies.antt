@@ -1,4 +1,5 @@
--- A policy that passes, and has no level error, in a part of a store.
+-- A policy that passes, and has no level error, evaluates over a part of a store as over the whole
+-- store.
 use Rattle.std.proofs.Common.{◌≡◌, ℕ, true, false, List, None, refl}
 use Rattle.cedar_types.specs.Types.Bounds.{is_strict}
 use Rattle.cedar_types.specs.Environments.{DeclaredEnv, environments_of}
@@ -61,13 +62,14 @@ module _ (b : Basis) (t : PlainTemplate) (schema : has_fault b.schema ≡ false)
           sounds (is_strict b.mode) (in_env s (own_env t d)) (own_world world) refl mode formed schema functions closed one
           (own_is_world s t faultless d one world fits i.store i.functions).environment i.store i.functions e (bound e) prior k h
 
-      -- what is derived in the own environment, and has no level error there, is the same in the part
+      -- a condition that is derived in the own environment, and has no level error there, evaluates
+      -- over the part as over the store
       in_own : (v : Verdict) → IsDerivedAs (setting_on b t.id (own_env t d)) (condition_of t) v
           → VerdictIsWithin (levels_on b t n (own_env t d)) v → IsSameIn t world part
       in_own =
           derived_same s t d world n part holds same_where_linked sound_in_own w.slots_in_scope w.bound
 
-      -- and so are its typed copies
+      -- the typed copies of such a condition do so too
       copies_in_own : (v : Verdict) → IsDerivedAs (setting_on b t.id (own_env t d)) (condition_of t) v
           → VerdictIsWithin (levels_on b t n (own_env t d)) v → VerdictMeansTheSameInPart world part (condition_of t) v
       copies_in_own =

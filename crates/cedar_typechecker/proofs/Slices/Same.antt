@@ -1,5 +1,5 @@
--- What is shown of an expression by induction: that it evaluates to the same in a part of the
--- store, and what it reaches where it is a target.
+-- The properties that induction proves of an expression: it evaluates over a part of the store as
+-- over the whole store, and if it is a target, the ids that it selects are reached.
 use Rattle.std.proofs.Common.{◌≡◌, ℕ, ◌≤◌, true, false, List, Some, refl, ap, subst}
 use Rattle.cedar_types.specs.declared.base.types.BoolType.TheVariants.{True, False}
 use Rattle.cedar_types.specs.Names.{Text, Uid}
@@ -16,7 +16,7 @@ use Rattle.cedar_typechecker.specs.Levels.Setting.{LevelSetting}
 use Rattle.cedar_typechecker.proofs.Levels.Silent.{Silent, Targeted}
 use Rattle.cedar_typechecker.proofs.Slices.Ids.{Selected, select_bool}
 
--- ---- what soundness says of the derivations of an expression that evaluates to o
+-- ---- type soundness, for the derivations of an expression that evaluates to o
 
 pub record IsTold (world : World) (o : Outcome) (J : Judgment) : Type 0 where
   pub typed : (t : Ty) (c : Caps) (x : TypedTree) → J.derives t c x → HasFound (Some t) o
@@ -26,7 +26,7 @@ pub record IsTold (world : World) (o : Outcome) (J : Judgment) : Type 0 where
   pub caps_hold_at_true : (c : Caps) (x : TypedTree) → J.derives (TBool True) c x
       → AllHold world c
 
--- less of it: what `&&` needs of its left side
+-- the part of type soundness that `&&` needs of its left side
 pub record IsToldLeft (world : World) (o : Outcome) (J : Judgment) : Type 0 where
   pub is_false : (c : Caps) (x : TypedTree) → J.derives (TBool False) c x
       → HasFound (Some (TBool False)) o
@@ -40,15 +40,16 @@ told_left world o J k = record {
   caps_hold_if_true = k.caps_hold_if_true;
 }
 
--- ---- what is shown
+-- ---- the properties
 
--- o in the whole store and o' in the part are the same, and what a target selects is reached
+-- the outcome o' over the part is o, that over the whole store, and the ids that a target selects
+-- are reached
 pub record IsReached (P : ℕ → Uid → Type 0) (path : List Text) (k : ℕ) (o o' : Outcome) :
     Type 0 where
   pub same : o' ≡ o
   pub ids : OnValue (Selected (P k) path) o
 
--- of a derivation in which no level error is found
+-- the properties of an expression, for each derivation in which no level error is found
 pub record IsSame (s : LevelSetting) (P : ℕ → Uid → Type 0) (o o' : Outcome) (J : Judgment) :
     Type 0 where
   pub checked : (t : Ty) (c : Caps) (x : TypedTree) → J.derives t c x → Silent s x → o' ≡ o
@@ -72,7 +73,7 @@ pub test_ids : (Q : Uid → Type 0) (path : List Text) (t : Test)
 test_ids Q path (Says b) = select_bool Q path b
 test_ids Q path (Stops f) = tt
 
--- what has a value of the type True is not false, nor the other way round
+-- an outcome of the type True is not false, and one of the type False is not true
 not_false : (o : Outcome) → HasFound (Some (TBool True)) o → o ≡ Gives (VBool false) → ⊥
 not_false o h e = let k : HasFound (Some (TBool True)) (Gives (VBool false)) = subst (HasFound (Some (TBool True))) e h in cc
 
@@ -82,7 +83,7 @@ not_true (Gives (VBool false)) h t = cc
 not_true (Gives v) h t = absurd h
 not_true (Fails f) h t = t
 
--- what holds of both branches, or of the one that is taken, and of each failure, holds of an `if`
+-- Q holds of an `if` if it holds of both branches, or of the one that is taken, and of each failure
 module _ (Q : Outcome → Outcome → Type 0) (fails : (f : Failure) → Q (Fails f) (Fails f))
     (p q p' q' : Outcome) where
   chosen : (o : Outcome) → (IsTrueOutcome o → Q p p') → (o ≡ Gives (VBool false) → Q q q')
@@ -104,7 +105,7 @@ module _ (Q : Outcome → Outcome → Type 0) (fails : (f : Failure) → Q (Fail
       → Q (choose (test_of o) p q) (choose (test_of o) p' q')
   chosen_open o f e = chosen o f (λ g. e)
 
--- the right side of `&&` counts where the left one is true, that of `||` where it is not
+-- the right side of `&&` counts if the left one is true, that of `||` if it is not
 module _ (p p' : Outcome) where
   pub or_left_true : (o : Outcome) → HasFound (Some (TBool True)) o
       → of_test (or_test (test_of o) (test_of p')) ≡ of_test (or_test (test_of o) (test_of p))

@@ -1,5 +1,5 @@
--- A part of a store that holds a slice agrees with the store on what is reached in fewer steps; the
--- slice is such a part itself.
+-- A part of a store that holds the slice of n steps agrees with the store on each entity that is
+-- reached in fewer than n steps; the slice is such a part itself.
 use Rattle.std.proofs.Common.{◌≡◌, ℕ, zero, suc, ◌≤◌, ◌<◌, Bool, true, false, List, [], ◌∷◌, ◌++◌, Option, Some, None, if◌then◌else◌, cond}
 use Rattle.std.proofs.Common.{filter, true≢false, ◌⊎◌, inl, inr, refl, sym, ap, ◌∙◌, subst, arith}
 use Rattle.std.proofs.lemmas.Bool.{cases_lt}
@@ -15,25 +15,25 @@ use Rattle.cedar_typing.proofs.Basics.Members.{AreAll, in_left, in_right, in_fla
 use Rattle.cedar_typechecker.specs.Slices.Reach.{ids_in_entries, ids_of, reach, reach_below, slice, IsPartOf, HoldsSlice, SlicesHold}
 use Rattle.cedar_typechecker.proofs.Slices.Ids.{Selected, select_entity}
 
--- all that is used of two stores, by what is reached in k steps
+-- all facts about two stores that the proofs use, where P k u says that u is reached in k steps
 pub record Agrees (r : Request) (store part : Store) (n : ℕ) (P : ℕ → Uid → Type 0) :
     Type 0 where
-  -- on what is reached in fewer than n steps they agree
+  -- the stores agree on each entity that is reached in fewer than n steps
   pub same : (k : ℕ) (u : Uid) → P k u → k < n → entity_at part u ≡ entity_at store u
-  -- what the request has is reached
+  -- the ids that the request holds are reached
   pub principal : (k : ℕ) → P k r.principal
   pub action : (k : ℕ) → P k r.action
   pub resource : (k : ℕ) → P k r.resource
   pub context : (k : ℕ) → AreAll (P k) (ids_in_entries r.context)
-  -- and what an entity holds, in one step more
+  -- the ids that an entity holds are reached in one step more
   pub attributes : (k : ℕ) (u : Uid) (e : Entity) → P k u → entity_at store u ≡ Some e
       → AreAll (P (suc k)) (ids_in_entries e.attributes)
   pub tags : (k : ℕ) (u : Uid) (e : Entity) → P k u → entity_at store u ≡ Some e
       → AreAll (P (suc k)) (ids_in_entries e.tags)
 
--- ---- of one value
+-- ---- one value
 
--- both stores have the same of a value that is an entity
+-- both stores agree on the value, if it is an entity
 abbrev pub IsSameValueIn : Store → Store → Value → Type 0
 IsSameValueIn part store (VBool b) = Unit {0}
 IsSameValueIn part store (VLong n) = Unit {0}
@@ -59,7 +59,7 @@ is_among (v ∷ us) u (inl e) =
     (subst (λ z. uid_eq u z ≡ true) e (uid_same.itself u))
 is_among (v ∷ us) u (inr h) = or_right (uid_eq u v) (uid_is_among us u) (is_among us u h)
 
--- what is reached in j steps is reached in fewer than k, if j is below k
+-- an id that is reached in j steps is reached in fewer than k, if j is below k
 reached_below : (r : Request) (store : Store) (j k : ℕ) (u : Uid) → j < k
     → IsOneOf u (reach r store j) → IsOneOf u (reach_below r store k)
 reached_below r store j zero u lt h = absurd (omega arith)
@@ -98,7 +98,7 @@ module _ (p : Uid → Bool) where
       passing_first e es u h (passing_at es u h) (p e.0) refl (uid_eq u e.0) refl
 
 module _ (r : Request) (store part : Store) (n : ℕ) (holds : HoldsSlice r store n part) where
-  -- reached in k steps or fewer
+  -- the id is reached in at most k steps
   abbrev pub Within : ℕ → Uid → Type 0
   Within k u = (j : ℕ) × (j ≤ k) × IsOneOf u (reach r store j)
 
@@ -156,7 +156,7 @@ module _ (p : Uid → Bool) where
       g (subst (λ c. (if c then Some e.1 else entity_at (passing p es) u) ≡ Some x) k h)
   first_passes e es u x g false q c k h = g h
 
-  -- what has an entry among those that pass passes
+  -- an id with an entry among those that pass passes too
   pub passes : (es : Store) (u : Uid) (x : Entity) → entity_at (passing p es) u ≡ Some x
       → p u ≡ true
   passes [] u x h = absurd (none_is h)

@@ -1,4 +1,4 @@
--- What a survey promises follows from what it says.
+-- The promises of a survey follow from its results.
 use Rattle.std.proofs.Common.{◌≡◌, ℕ, ◌≤◌, Bool, true, false, List, [], ◌∷◌, cond, None, inl, refl, sym, subst, ◌∙◌}
 use Rattle.cedar_types.specs.Errors.{Finding}
 use Rattle.cedar_types.specs.Extensions.Functions.{table_fault}
@@ -17,7 +17,7 @@ use Rattle.cedar_typechecker.proofs.Levels.RequiredLevels.{within_if_none_listed
 use Rattle.cedar_typechecker.proofs.Slices.Policies.{passing_needs_slice_alone}
 
 module _ (b : Basis) (t : PlainTemplate) (s : Survey) (h : IsSurveyOf b t s) where
-  -- a survey is what a check of the policy results in
+  -- the results of a survey are those of a check of the policy
   pub checked : CheckedOn b t (passes_of s) [] (all_errors h.verdicts) [] (warnings_of t h.verdicts)
   checked = record {
     listed = h.listed;
@@ -29,7 +29,7 @@ module _ (b : Basis) (t : PlainTemplate) (s : Survey) (h : IsSurveyOf b t s) whe
     warnings_added = λ e. (λ i. i, λ i. i);
   }
 
-  -- of one that passes
+  -- the results of a policy that passes
   passed : passes_of s ≡ true
       → CheckedOn b t true [] (all_errors h.verdicts) [] (warnings_of t h.verdicts)
   passed e =

@@ -1,5 +1,5 @@
--- Each target in an expression without level errors has at most the level that is allowed, and
--- nothing is found along it.
+-- Each target in an expression without level errors has at most the level that is allowed, and no
+-- error is found along it.
 use Rattle.std.proofs.Common.{◌≡◌, ℕ, ◌+◌, ◌≤◌, Bool, true, false, nat_lt, nat_le, List, [], ◌∷◌, Option, Some, None, if◌then◌else◌, inl}
 use Rattle.std.proofs.Common.{inr, refl, sym, subst, arith}
 use Rattle.std.proofs.lemmas.Bool.{ltb-true, leb-true}
@@ -38,12 +38,12 @@ module _ (s : LevelSetting) where
   is_at : (x y : Target) (k : ℕ) → LevelIs y k → x ≡ y → LevelIs x k
   is_at x y k h e = subst (λ z. LevelIs z k) (sym e) h
 
-  -- the only one of a list
+  -- the member of a list that has one
   only : (x y : Target) (k : ℕ) → LevelIs y k → IsOneOf x (y ∷ []) → LevelIs x k
   only x y k h (inl e) = is_at x y k h e
   only x y k h (inr i) = absurd i
 
-  -- ---- targets of what is checked
+  -- ---- targets of checked expressions
 
   below : (x : TypedTree) → IsNone (unless_below s.maximum (level s.action x []))
       → level s.action x [] ≤ s.maximum
@@ -165,7 +165,7 @@ module _ (s : LevelSetting) where
         next_level x path (along y path') i in
         omega arith
 
-    -- ---- nothing is found along it
+    -- ---- no error is found along a target
 
     no_error : (e : Finding) → IsOneOf e (checked_errors s root) → IsOneOf e []
     no_error e i =

@@ -1,4 +1,5 @@
--- A typed copy without level errors evaluates in a part of the store that holds the slice as the expression does in the whole.
+-- A typed copy without level errors evaluates over a part of the store that holds the slice as the
+-- expression does over the whole store.
 use Rattle.std.proofs.Common.{◌≡◌, inl, inr, ℕ, Some, refl, sym, ◌∙◌, subst}
 use Rattle.cedar_types.specs.Names.{Uid}
 use Rattle.cedar_types.specs.Types.{Ty}
@@ -25,7 +26,7 @@ use Rattle.cedar_typing.proofs.TypedCopies.Induction.{copies}
 use Rattle.cedar_typechecker.proofs.Slices.Loaded.{Loaded, loaded_closed}
 use Rattle.cedar_typing.proofs.TypedCopies.Same.{Told, ToldPart}
 
--- ---- what is the same in the part, and told in the whole, is told in the part
+-- ---- type soundness over the store is type soundness over the part
 
 module _ (levels : LevelSetting) (P : ℕ → Uid → Type 0) (o o' : Outcome) (J : Judgment) (i : IsSame levels P o o' J) where
   pub same_if_loaded : (t : Ty) (c : Caps) (x : TypedTree) → J.derives t c x → Loaded levels x → o' ≡ o

@@ -1,4 +1,5 @@
--- Validation with levels that finds no error: what it says of the check of the policy, and what that promises.
+-- Validation with levels that finds no error: the check of the policy passes, and both halves of
+-- the promise follow.
 use Rattle.std.proofs.Common.{◌≡◌, inl, inr, ℕ, true, false, true≢false, None, List, [], ◌∷◌, ◌++◌, refl, sym, subst}
 use Rattle.std.specs.Prelude.{IsPermutation}
 use Rattle.std.proofs.lemmas.List.Sorted.{IsPermutation-refl}
@@ -33,7 +34,7 @@ use Rattle.cedar_typechecker.proofs.Validations.{names_known, none_of_checks, al
 
 -- ---- verdicts
 
--- the same verdict is within the same level
+-- two verdicts that are the same are within the same level
 same_within : (s : LevelSetting) (v w : Verdict) → SameVerdict v w → VerdictIsWithin s v → VerdictIsWithin s w
 same_within s v w same_success h = h
 same_within s v w (same_irrelevant p) h = h
@@ -55,7 +56,7 @@ module _ (b : Basis) (t : PlainTemplate) (n : ℕ) where
   listed_within (x ∷ envs) (w ∷ vs) c f env (inr k) =
       listed_within envs vs c.1 (λ e h. f e (inr h)) env k
 
--- ---- what the validation comes to
+-- ---- the outcome of the validation
 
 module _ (b : Basis) (t : PlainTemplate) (n : ℕ) (errors : List Finding) (warnings : List Warning)
     (o : LevelOutcome b t n errors warnings) (silent : errors ≡ []) where
@@ -85,7 +86,7 @@ module _ (b : Basis) (t : PlainTemplate) (n : ℕ) (errors : List Finding) (warn
 
 -- ---- the promises
 
--- where there is no error, all names are known, the check passes and it is within the level
+-- if there is no error, all names are known, the check passes, and the policy is within the level
 passes_silently : (b : Basis) (t : PlainTemplate) (n : ℕ) (errors : List Finding)
     (warnings : List Warning) (o : LevelOutcome b t n errors warnings)
     → has_fault b.schema ≡ false → IsFormedFor b.mode b.schema → table_fault b.table.functions ≡ None

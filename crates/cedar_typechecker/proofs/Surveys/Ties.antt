@@ -1,4 +1,4 @@
--- Ties in the derived order of demands are equality of what they say.
+-- Demands that tie in the derived order are equal as plain data.
 use Rattle.std.proofs.Common.{◌≡◌, ℕ, Bool, true, true≢false, ◌&&◌, nat_eq, Option, Some, None, refl, sym, ap, subst, ◌∙◌}
 use Rattle.std.specs.Bool.{Decides}
 use Rattle.std.specs.Option.{option_eq}

@@ -1,6 +1,7 @@
--- Access chains of a typed expression: from the entity that it gives back, through each entity that
--- is accessed on the way, to the leaf at which the chain begins. The expression's level is the
--- greatest number of accesses in a chain.
+-- Access chains of a typed expression: from the entity that is its value, back through each entity
+-- that is accessed on the way, to a leaf, such as `principal`. The expression's level is the
+-- greatest number of accesses in a chain. For example, `(if b then principal.user else
+-- principal).user` has a chain with two accesses and one with one, so its level is 2.
 use Rattle.std.specs.Prelude.{◌≡◌, ℕ, ◌+◌, max, Bool, true, false, List, [], ◌∷◌, ◌++◌, map, Option, Some, None, if◌then◌else◌}
 use Rattle.cedar_types.specs.declared.base.expressions.operators.BinaryOp.{BinaryOp}
 use Rattle.cedar_types.specs.Names.{Text, Uid, uid_eq, text_eq}
@@ -12,7 +13,7 @@ use Rattle.cedar_typing.specs.TypedExpr.{TypedTree, Mark, annotation}
 -- ---- bases of accesses
 
 -- the base of an access, by the type that was found: an entity whose types are known, or a record.
--- An entity of any type is neither, because its attributes are not known
+-- An entity of any type is neither, because the schema does not tell its attributes
 pub data Base : Type 0 where
   an_entity a_record neither : Base
 
@@ -37,7 +38,7 @@ field_at p (field k t fs) = if text_eq p k then Some t else field_at p fs
 -- ---- leaves, at which chains end
 
 pub data Leaf : Type 0 where
-  -- a variable, or the literal of the environment's action
+  -- a variable, or the literal of the environment's action: each request names their entities
   good_leaf : Leaf
   -- another entity literal, or a slot, whose entity need not be in a slice
   literal_leaf : Leaf
@@ -98,7 +99,7 @@ pub data HasChain (a : Option Uid) : TypedTree → List Text → ℕ → Leaf �
   -- `b.getTag(c)` has the chains of b along the path, each with one access more
   of_tag : {m : Mark} {b c : TypedTree} {path : List Text} {k : ℕ} {l : Leaf}
       → HasChain a b path k l → HasChain a (binary m BinaryOp.GetTag b c) path (k + 1) l
-  -- an `if` has the chains of both branches
+  -- an `if` has the chains of both branches, because either branch may give its value
   of_then : {m : Mark} {b c d : TypedTree} {path : List Text} {k : ℕ} {l : Leaf}
       → HasChain a c path k l → HasChain a (if_then_else m b c d) path k l
   of_else : {m : Mark} {b c d : TypedTree} {path : List Text} {k : ℕ} {l : Leaf}
@@ -165,6 +166,7 @@ abbrev pub greatest : List Chain → ℕ
 greatest [] = 0
 greatest (c ∷ cs) = max c.accesses (greatest cs)
 
--- the level of an expression along a path: the most entities that a chain of it accesses
+-- the level of an expression along a path: the most entities that one of its chains accesses,
+-- because evaluation may follow any of them
 abbrev pub level : Option Uid → TypedTree → List Text → ℕ
 level a x path = greatest (chains a x path)

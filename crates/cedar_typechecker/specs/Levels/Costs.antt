@@ -1,5 +1,6 @@
 -- The cost of a chain of attributes: the number of entities that extended `has` accesses to test
--- it.
+-- it. For example, `principal has user.name` costs 2 if `user` is an entity, and 1 if it is a
+-- record.
 use Rattle.std.specs.Prelude.{ℕ, ◌+◌, Bool, List, [], ◌∷◌, Option, Some, None, option_map}
 use Rattle.cedar_types.specs.Types.Lookups.{attribute_type}
 use Rattle.cedar_types.specs.Names.{Text}
@@ -23,8 +24,8 @@ abbrev pub on_attribute : {A : Type 0} → A → Option (Ty × Bool) → (Ty →
 on_attribute otherwise None f = otherwise
 on_attribute otherwise (Some a) f = f a.0
 
--- an attribute counts if it is an entity of some types and not the last of the chain, which ends
--- before the first attribute that is not declared
+-- an attribute counts if it is an entity of some types and not the last of the chain, because the
+-- last attribute is only tested. The chain ends before the first attribute that is not declared
 abbrev pub steps_cost : Schema → Ty → Text → List Text → ℕ
 steps_cost s t x [] = 0
 steps_cost s t x (y ∷ ys) =

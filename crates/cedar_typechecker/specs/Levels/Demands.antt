@@ -1,5 +1,6 @@
--- Demands of a typed expression on levels, which do not depend on the maximum: one after another, as the program finds them.
--- The level errors at a maximum and the required level are both read from them.
+-- Demands of a typed expression on levels, in the order in which the program finds them. They do
+-- not depend on the maximum, so one walk gives both the level errors at each maximum and the
+-- required level.
 use Rattle.std.specs.Prelude.{ℕ, ◌+◌, ◌-◌, ◌^◌, ◌≤◌, min, max, nat_lt, Bool, true, false, List, [], ◌∷◌, ◌++◌, map}
 use Rattle.std.specs.Prelude.{Option, Some, None, if◌then◌else◌}
 use Rattle.std.specs.List.{flat_map}
@@ -25,20 +26,22 @@ use Rattle.cedar_typechecker.specs.Levels.Shared.{is_constant}
 -- ---- one demand
 
 pub data Need : Type 0 where
-  -- this level, or a greater one
+  -- a maximum of at least this level
   this_level : ℕ → Need
-  -- no dereference of a literal or a slot: no level is enough
+  -- an expression other than a literal or a slot at the end of an access chain: no maximum is
+  -- enough
   no_literal : Need
-  -- a rule for the node, which has none: no level is enough
+  -- a rule for the node, which has none: no maximum is enough
   a_rule : Need
 
 pub record Demand : Type 0 where
   pub place : Option Loc
   pub need : Need
-  -- at a maximum below this, the error of an expression above stands for the demand
+  -- a maximum below this number hides the demand, because an extended `has` further up costs more
+  -- than that maximum, and its error stands for all errors below it
   pub hidden_below : ℕ
 
--- the faults at the maximum n if the need is not met
+-- the faults at the maximum n: none if n meets the need
 abbrev pub unless_met : ℕ → Need → List Fault
 unless_met n (this_level k) = unless_within n k
 unless_met n no_literal = literal_dereference_target ∷ []
@@ -47,7 +50,7 @@ unless_met n a_rule = internal_invariant_violation ∷ []
 abbrev pub found_for : Text → Demand → Fault → Finding
 found_for p d f = record { place = d.place; policy = p; fault = f }
 
--- the errors of a policy p at the maximum n, from a demand; and those from all demands
+-- the errors of a policy p at the maximum n, from one demand and from all demands
 abbrev pub told_of : Text → ℕ → Demand → List Finding
 told_of p n d =
     if nat_lt n d.hidden_below then [] else map (found_for p d) (unless_met n d.need)
@@ -67,7 +70,8 @@ MeetsAll n ds = (d : Demand) → IsOneOf d ds → Meets n d.need
 
 -- ---- numbers
 
--- the program counts up to the greatest number of 64 bits, and no further
+-- the program counts up to the greatest number of 64 bits, and no further. This changes no error,
+-- because a maximum has 32 bits, and so has each level that an error reports
 abbrev pub capped : ℕ → ℕ
 capped k = min k (2 ^ 64 - 1)
 
@@ -93,14 +97,15 @@ abbrev pub on_keys : {A : Type 0} → Option (List Text) → A → (List Text �
 on_keys None otherwise f = otherwise
 on_keys (Some path) otherwise f = f path
 
--- by cases of whether the key that is followed was met
+-- by cases: whether the walk has met the key that is followed
 abbrev pub unless_found : {A : Type 0} → Option ℕ → (ℕ → A) → A → A
 unless_found (Some k) f otherwise = f k
 unless_found None f otherwise = otherwise
 
 -- ---- the attributes of extended `has`, one after another
 
--- the number of attributes after the first that lead to the first entity, with the i before
+-- i and the number of attributes after the first that lead to the first entity, if one comes before
+-- the last attribute
 abbrev pub entity_after : Schema → ℕ → Ty → Text → List Text → Option ℕ
 entity_after s i t x [] = None
 entity_after s i t x (y ∷ ys) =
@@ -111,6 +116,8 @@ entity_after s i t x (y ∷ ys) =
 -- ---- levels of targets
 
 abbrev mutual
+  -- the level of a target along a path, as the program counts it. An `if` whose test is True or
+  -- False counts one branch, because typing makes both branches one tree
   pub counted_level : TypedTree → List Text → ℕ
   counted_level (lit m x) path = 0
   counted_level (var m x) path = 0
@@ -143,7 +150,7 @@ abbrev mutual
 
 -- ---- the walk
 
--- the surroundings in which demands are found
+-- the surroundings on which the demands of an expression depend
 pub record Surroundings : Type 0 where
   -- the action of the environment, if that is one of a declared action
   pub action : Option Uid
@@ -153,7 +160,7 @@ pub record Surroundings : Type 0 where
 abbrev pub around : LevelSetting → Surroundings
 around s = record { action = s.action; schema = s.schema }
 
--- the demands with one more, at a place
+-- the demands ds and one more, at a place
 abbrev pub demands : Option Loc → Need → ℕ → List Demand → List Demand
 demands l need h ds = ds ++ record { place = l; need = need; hidden_below = h } ∷ []
 
@@ -162,9 +169,10 @@ at_leaf l good_leaf h ds = ds
 at_leaf l literal_leaf h ds = demands l no_literal h ds
 at_leaf l bad_leaf h ds = demands l a_rule h ds
 
--- the demands of extended `has`, by its base, its cost and the keys to its first entity. On an entity or a record it demands
--- the cost, and the level of its target, if it has one, with the cost. At a maximum below the cost, the error of the cost
--- stands for all demands below. Any other base is only checked
+-- the demands of extended `has`, by its base, its cost and the keys to its first entity. On an
+-- entity or a record it demands its cost, and, if it has a target, the target's level with the
+-- cost. A maximum below the cost hides all of these but the cost, because nothing below is visited
+-- then. Any other base is only checked
 abbrev pub add_chain_demands : Option Loc → Base → ℕ → Option (List Text) → (List Text → ℕ)
     → (List Text → ℕ → List Demand → List Demand) → (ℕ → List Demand → List Demand)
     → ℕ → List Demand → List Demand
@@ -179,7 +187,7 @@ add_chain_demands l neither c keys level_along on_target on_base h ds = on_base 
 
 module _ (s : Surroundings) where
   abbrev mutual
-    -- the demands of a checked expression, hidden below h
+    -- the demands ds and those of a checked expression, which a maximum below h hides
     pub add_demands : TypedTree → ℕ → List Demand → List Demand
     add_demands (lit m x) h ds = ds
     add_demands (var m x) h ds = ds
@@ -227,7 +235,7 @@ module _ (s : Surroundings) where
     add_field_demands no_fields h ds = ds
     add_field_demands (field k t es) h ds = add_field_demands es h (add_demands t h ds)
 
-    -- the demands of a target, along a path
+    -- the demands ds and those of a target, along a path
     pub add_target_demands : TypedTree → List Text → ℕ → List Demand → List Demand
     add_target_demands (lit m x) path h ds = at_leaf m.at.place (leaf_of_literal s.action x) h ds
     add_target_demands (var m x) path h ds = ds
@@ -257,14 +265,15 @@ module _ (s : Surroundings) where
         (λ p rest. if has_key p es then add_demands_along es p rest h ds
         else demands m.at.place a_rule h ds)
 
-    -- the demands of a record literal's value at a key as a target, and those of the values at other keys
+    -- the demands of a record literal: its value at the key is a target, and its other values are
+    -- checked
     pub add_demands_along : Fields Mark → Text → List Text → ℕ → List Demand → List Demand
     add_demands_along no_fields p path h ds = ds
     add_demands_along (field k t es) p path h ds =
         if text_eq p k then add_field_demands es h (add_target_demands t path h ds)
         else add_demands_along es p path h (add_demands t h ds)
 
-  -- the demands of extended `has`
+  -- the demands of extended `has`, from its base and its attributes
   abbrev pub add_demands_of_chain : Option Loc → TypedTree → Text → List Text
       → ℕ → List Demand → List Demand
   add_demands_of_chain l b x xs h ds =

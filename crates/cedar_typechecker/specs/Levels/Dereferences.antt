@@ -22,8 +22,8 @@ along x path = record { tree = x; path = path }
 
 -- ---- below a checked expression
 
--- `has` and `.`: an entity base is a target, a record base is checked, and below any other base
--- nothing is visited
+-- `has` and `.`: an entity base is a target, and a record base is checked. Below any other base
+-- nothing is visited, because the whole has an internal error then
 abbrev pub checked_of_base : Base → TypedTree → List TypedTree
 checked_of_base a_record b = b ∷ []
 checked_of_base k b = []
@@ -143,7 +143,7 @@ mutual
     -- a checked expression has targets
     target_of_checked : {x y : TypedTree} {path : List Text}
         → IsChecked s root x → IsOneOf (along y path) (targets s x) → IsTarget s root y path
-    -- a target goes back to other targets
+    -- a target goes back to other targets, from which it takes its value
     next_target : {x y : TypedTree} {path path' : List Text}
         → IsTarget s root x path → IsOneOf (along y path') (next_targets x path)
         → IsTarget s root y path'

@@ -1,4 +1,4 @@
--- Computed details of levels that are easily got wrong.
+-- Computed details of levels that are easy to get wrong.
 use Rattle.std.specs.Prelude.{◌≡◌, true, false, [], ◌∷◌, Some, None, codes}
 use Rattle.cedar_types.specs.declared.base.names.slots.SlotId.{SlotId}
 use Rattle.cedar_types.specs.declared.base.types.ValidationMode.TheVariants.{Strict}
@@ -24,7 +24,8 @@ abbrev pub only_view : Fields Mark
 only_view = field (codes "foo") (lit bare (entity view)) no_fields
 
 pub record LevelDetails : Type 0 where
-  -- `if true then principal.bool else false` has its first branch twice, with the same errors
+  -- `if true then principal.bool else false` has its error twice, because typing puts the first
+  -- branch in the place of both
   pub constant_test :
       strictly 0 (if_then_else tt true_lit (bool_of principal) false_lit)
       ≡ exceeds 0 1 ∷ exceeds 0 1 ∷ []

@@ -21,7 +21,8 @@ reported k = min k 4294967295
 abbrev pub exceeds : ℕ → ℕ → Fault
 exceeds n k = maximum_level_exceeded n (reported k)
 
--- an access of a target of level k requires level k + 1
+-- an access of a target of level k requires level k + 1, because it reads the entry of one more
+-- entity
 abbrev pub unless_below : ℕ → ℕ → List Fault
 unless_below n k = if nat_lt k n then [] else exceeds n (k + 1) ∷ []
 

@@ -26,7 +26,7 @@ LevelIsGreatest =
     → ((l : Leaf) × HasChain a x path (level a x path) l)
     × ((k : ℕ) (l : Leaf) → HasChain a x path k l → k ≤ level a x path)
 
--- if there is no level error at a maximum, there is none at any larger one
+-- an expression without a level error at a maximum has none at any larger one
 abbrev pub LargerLevelsAreWithin : Type 0
 LargerLevelsAreWithin =
     (s : LevelSetting) (n : ℕ) (root : TypedTree)
@@ -38,7 +38,7 @@ WalkFindsErrors =
     (s : LevelSetting) (root : TypedTree) (e : Finding)
     → IsLevelError s root e ↔ IsOneOf e (checked_errors s root)
 
--- so an expression is within the level exactly if the walk finds nothing
+-- so an expression is within the level exactly if the walk finds no error
 abbrev pub SilentWalkIsWithin : Type 0
 SilentWalkIsWithin =
     (s : LevelSetting) (root : TypedTree)
@@ -66,7 +66,8 @@ DemandsTellErrors =
     → IsOneOf e (told s.policy s.maximum (add_demands (around s) root 0 []))
     ↔ IsLevelError s root e
 
--- the maximum meets all demands, even those that are hidden, exactly if there is no level error
+-- the maximum meets all demands, even the hidden ones, exactly if there is no level error, because
+-- a maximum that hides a demand is below a cost, which is a demand too
 abbrev pub DemandsAreMet : Type 0
 DemandsAreMet =
     (s : LevelSetting) (root : TypedTree)

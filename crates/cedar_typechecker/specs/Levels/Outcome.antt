@@ -31,7 +31,8 @@ levels_on b t n env = record {
   policy = t.id;
 }
 
--- a level error of the condition that a check typed. A failed check typed no condition
+-- a level error of the condition that a check typed. An irrelevant condition counts too, because it
+-- is evaluated all the same. A failed check typed no condition
 abbrev pub IsErrorOfVerdict : LevelSetting → Verdict → Finding → Type 0
 IsErrorOfVerdict s (succeeds x) e = IsLevelError s x e
 IsErrorOfVerdict s (irrelevant es x) e = IsLevelError s x e
@@ -39,14 +40,15 @@ IsErrorOfVerdict s (fails es) e = ⊥
 
 -- ---- all environments
 
--- a level error of some environment, with its verdict
+-- a level error of some environment, by that environment's verdict
 abbrev pub IsErrorInSome : (Env → LevelSetting) → List Env → List Verdict → Finding → Type 0
 IsErrorInSome levels [] vs e = ⊥
 IsErrorInSome levels (env ∷ envs) [] e = ⊥
 IsErrorInSome levels (env ∷ envs) (v ∷ vs) e =
     IsErrorOfVerdict (levels env) v e ⊎ IsErrorInSome levels envs vs e
 
--- the findings of the passes over names, which run in Strict and in Permissive
+-- the findings of the passes over names. They do not run in Partial, because its schema need not
+-- declare every name
 abbrev pub name_findings : ValidationMode → Schema → PlainTemplate → List Finding
 name_findings Strict s t = wrong_members s t ++ (unknown_types s t ++ unknown_actions s t)
 name_findings Permissive s t = wrong_members s t ++ (unknown_types s t ++ unknown_actions s t)

@@ -1,4 +1,4 @@
--- Views of the program's paths: their keys.
+-- Views of the program's paths: the keys along a path.
 use Rattle.std.specs.Prelude.{List, [], ◌∷◌, Option, Some, None, map}
 use Rattle.cedar_types.specs.Names.{text_of, Text}
 use Rattle.cedar_typechecker.specs.declared.level_validate.paths.Path.{Path, fold-Path}

@@ -1,4 +1,5 @@
--- Levels of a policy that passes in Strict: they are those of Permissive.
+-- Levels of a policy that passes in Strict: they are its levels in Permissive too, because both
+-- modes derive the same typed conditions.
 use Rattle.std.specs.Prelude.{◌≡◌, ◌↔◌, ℕ, true, List, Option, None}
 use Rattle.cedar_types.specs.declared.base.types.ValidationMode.TheVariants.{Strict, Permissive}
 use Rattle.cedar_types.specs.Errors.{Finding, Warning}
@@ -11,8 +12,8 @@ use Rattle.cedar_typechecker.specs.Levels.Outcome.{LevelOutcome}
 use Rattle.cedar_typechecker.specs.Levels.Required.{IsRequiredLevel}
 use Rattle.cedar_typechecker.specs.Slices.Policies.{PolicyIsWithinLevel}
 
--- levels do not depend on the mode: whether the policy has a level error at n, the level that it requires, and the outcome of
--- its validation with levels
+-- the levels of a policy do not depend on the mode: whether it has a level error at n, the level
+-- that it requires, and the outcome of its validation with levels
 pub record HasSameLevels (b : Basis) (t : PlainTemplate) : Type 0 where
   pub within : (n : ℕ)
       → PolicyIsWithinLevel (basis_in_mode Strict b) t n ↔ PolicyIsWithinLevel (basis_in_mode Permissive b) t n

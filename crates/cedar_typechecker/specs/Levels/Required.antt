@@ -1,4 +1,4 @@
--- The level that a policy requires.
+-- The level that a policy requires: the least one at which it has no level error.
 use Rattle.std.specs.Prelude.{◌≡◌, ◌↔◌, ℕ, ◌≤◌, ◌<◌, List, [], Option, Some, None}
 use Rattle.cedar_types.specs.Errors.{Finding, Warning}
 use Rattle.cedar_types.specs.Templates.{PlainTemplate}
@@ -10,7 +10,8 @@ use Rattle.cedar_typechecker.specs.Slices.Policies.{PolicyIsWithinLevel}
 
 -- the level that a policy requires
 abbrev pub IsRequiredLevel : Basis → PlainTemplate → Option ℕ → Type 0
--- there is no required level if the policy has a level error at each number of 32 bits
+-- there is no required level if the policy has a level error at each number of 32 bits, for example
+-- because it dereferences an entity literal
 IsRequiredLevel b t None = (n : ℕ) → n ≤ 4294967295 → PolicyIsWithinLevel b t n → ⊥
 -- else the required level is the least number at which the policy has no level error
 IsRequiredLevel b t (Some n) =
@@ -31,7 +32,7 @@ WithinWhereReached =
     → IsRequiredLevel b t required → n ≤ 4294967295
     → PolicyIsWithinLevel b t n ↔ Reaches required n
 
--- exactly there its validation with levels finds no level error
+-- validation with levels finds no level error at n exactly if n reaches the required level
 abbrev pub SilentWhereReached : Type 0
 SilentWhereReached =
     (b : Basis) (t : PlainTemplate) (required : Option ℕ) (n : ℕ)

@@ -1,4 +1,4 @@
--- The worked rows of levels, as the rules compute them: the faults, with repeats.
+-- The worked rows of levels, by their numbers: the faults that the rules compute, with repeats.
 use Rattle.std.specs.Prelude.{◌≡◌, false, [], ◌∷◌, Some, codes}
 use Rattle.cedar_types.specs.declared.base.expressions.operators.BinaryOp.{BinaryOp}
 use Rattle.cedar_types.specs.declared.base.expressions.operators.Var.{Var}

@@ -1,5 +1,5 @@
 -- Typed expressions in which both branches of an `if` are one tree if the test's type is True or
--- False, as typing makes them.
+-- False. Typing makes them so, because it types only the branch that is taken.
 use Rattle.std.specs.Prelude.{◌≡◌, Bool, true, false, Option, Some, None, if◌then◌else◌}
 use Rattle.cedar_types.specs.declared.base.types.BoolType.TheVariants.{AnyBool, True, False}
 use Rattle.cedar_types.specs.Expressions.Tree.{lit, var, slot, unknown, if_then_else, and, or, unary, binary, call, get_attr, has_attr}
@@ -20,6 +20,7 @@ is_constant None = false
 is_constant (Some t) = is_constant_type t
 
 abbrev mutual
+  -- each `if` in the expression whose test is True or False has one tree as both branches
   pub BranchesAreShared : TypedTree → Type 0
   BranchesAreShared (lit m x) = Unit {0}
   BranchesAreShared (var m x) = Unit {0}

@@ -1,4 +1,4 @@
--- Views of the values of the level pass.
+-- Views of the level pass's values as plain data.
 use Rattle.std.specs.Prelude.{List, [], ◌∷◌, Option, Some, None, map, option_map}
 use Rattle.std.specs.declared.alloc.Global.{Global}
 use Rattle.std.specs.declared.rc.RcStr.{RcStr}

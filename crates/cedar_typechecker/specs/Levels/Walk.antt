@@ -15,7 +15,8 @@ use Rattle.cedar_typechecker.specs.Levels.Setting.{LevelSetting}
 abbrev pub found_at : LevelSetting → Mark → List Fault → List Finding
 found_at s m fs = map (level_finding s m) fs
 
--- the errors below an access: those of its base, as a target or as a checked expression
+-- the errors below an access: those of its base, as a target or as a checked expression. Any other
+-- base has none, because nothing below it is visited
 abbrev pub of_base : Base → List Finding → List Finding → List Finding
 of_base an_entity of_target of_checked = of_target
 of_base a_record of_target of_checked = of_checked

@@ -1,5 +1,5 @@
 -- Policies for which all premises of slice soundness hold together, at the least level that is
--- enough; and what is reached, and what a slice has, by some small data.
+-- enough; and computed examples of reached ids and of slices.
 use Rattle.std.specs.Prelude.{◌≡◌, ℕ, pos, true, false, List, [], ◌∷◌, map, Some, None, codes}
 use Rattle.cedar_types.specs.declared.base.expressions.operators.Var.{Var}
 use Rattle.cedar_types.specs.declared.base.types.ValidationMode.{ValidationMode}
@@ -38,15 +38,14 @@ pub mod LeftOpen
 
 -- ---- level errors of a policy
 
--- in some environment that the policy is checked in there is a level error, and this is what is
--- wrong
+-- the policy has a level error with this fault, in some environment in which it is checked
 abbrev pub HasLevelError : Basis → PlainTemplate → ℕ → Fault → Type 0
 HasLevelError b t n f =
     (env : Env) × IsOneOf env (checked_envs b.schema b.mode t)
     × (v : Verdict) × ChecksOn b t env v
     × (e : Finding) × IsErrorOfVerdict (levels_on b t n env) v e × (e.fault ≡ f)
 
--- what the checks of a policy come to
+-- the verdicts of a policy's checks
 abbrev pub checks_of : Basis → PlainTemplate → List Verdict
 checks_of b t =
     map (λ env. policy_check (setting_on b t.id env) (condition_of t))
@@ -82,11 +81,13 @@ is_guided a =
 abbrev pub resource : Shape
 resource = var tt Var.Resource
 
--- `permit(principal in ?principal, action, resource) when { .. }` with that of the resource
+-- `permit(principal in ?principal, action, resource) when { e }`, where e is that test of
+-- `resource`
 abbrev pub guided_page : PlainTemplate
 guided_page = template (within to_slot) any (Some (is_guided resource))
 
--- and with that of `if principal.active then principal else resource`, a user or a page
+-- the policy in which e is that test of `if principal.active then principal else resource`, which
+-- is a user or a page
 abbrev pub guided_either : PlainTemplate
 guided_either =
     template (within to_slot) any
@@ -94,8 +95,8 @@ guided_either =
 
 -- ---- the premises hold together
 
--- at level 3, and at 2 they do not; the slice leaves out an entity; the condition is true there, as
--- it is in the store, and in the slice of 2 steps it fails
+-- all premises hold at level 3, and not at 2. The slice of 3 steps leaves out dan. The condition is
+-- true over it and over the store, and fails over the slice of 2 steps
 pub record AllPremisesHold (m : ValidationMode) (t : PlainTemplate) : Type 0 where
   pub faultless : has_fault wiki_schema ≡ false
   pub formed : has_formed_types wiki_schema ≡ true
@@ -116,14 +117,14 @@ pub record AllPremisesHold (m : ValidationMode) (t : PlainTemplate) : Type 0 whe
   pub too_small : eval (with_store reading (slice_of reading 2)) (condition_of t)
       ≡ Fails MissingEntity
 
--- of one policy in both modes, and of one that Strict refuses
+-- the premises hold for one policy in both modes, and in Permissive for one that Strict refuses
 pub record SlicePremisesAreMet : Type 0 where
   pub strict : AllPremisesHold Strict guided_page
   pub permissive : AllPremisesHold Permissive guided_page
   pub united : AllPremisesHold Permissive guided_either
   pub strict_refuses : all_pass (checks_of (wiki_basis Strict) guided_either) ≡ false
 
--- ---- what is reached
+-- ---- reached ids, and slices
 
 pub record SlicesAreAsSaid : Type 0 where
   -- ids at any depth of sets and records, in the order in which they stand
@@ -134,29 +135,31 @@ pub record SlicesAreAsSaid : Type 0 where
       (VRecord
       (more_entries (codes "a") (VSet (two_values (VLong (pos 1)) (VEntity bob))) no_entries))))
       ≡ alice ∷ bob ∷ []
-  -- no id in a text, nor in an extension value
+  -- a text holds no id, nor does an extension value
   pub no_id :
       ids_in (VSet (two_values (VString (codes "alice")) (VExtension decimal (codes "1.0")))) ≡ []
-  -- of two entries with one key the second is never read, and counts too
+  -- the second of two entries with one key is never read, and counts too
   pub one_key_twice :
       ids_in_entries
       (more_entries (codes "a") (VEntity alice) (more_entries (codes "a") (VEntity bob) no_entries))
       ≡ alice ∷ bob ∷ []
-  -- of an entity its attributes and its tags, and not its ancestors
+  -- an entity holds the ids in its attributes and its tags, and not its ancestors
   pub of_entity : ids_of (Some stored_alice) ≡ bob ∷ bob ∷ []
   pub of_tags : ids_of (Some stored_carol) ≡ dan ∷ []
   pub not_stored : ids_of None ≡ []
-  -- what the request names, with what its context holds; then step by step, with repeats
+  -- the ids that the request names, with those in its context; then those of each further step,
+  -- with repeats
   pub reach_0 : reach reading.request reading.store 0 ≡ alice ∷ read ∷ home ∷ erin ∷ []
   pub reach_1 : reach reading.request reading.store 1 ≡ bob ∷ bob ∷ bob ∷ []
   pub reach_2 : reach reading.request reading.store 2 ≡ carol ∷ carol ∷ carol ∷ []
   pub reach_3 : reach reading.request reading.store 3 ≡ dan ∷ dan ∷ dan ∷ []
   pub reach_4 : reach reading.request reading.store 4 ≡ []
-  -- of two entries of one entity the first counts
+  -- the first of two entries of one entity counts
   pub first_entry :
       reach reading.request ((alice, plain_user) ∷ wiki_store) 1 ≡ bob ∷ []
-  -- entries as they stand in the store: in no step none, then those of what the request names, and
-  -- so on; that of the staff, which is an ancestor alone, never
+  -- entries as they stand in the store: none in zero steps, in one step those of the ids that the
+  -- request itself holds, and so on. The staff's entry is in no slice, because the staff is an
+  -- ancestor alone
   pub slice_0 : slice_of reading 0 ≡ []
   pub slice_1 :
       slice_of reading 1

@@ -1,6 +1,6 @@
--- Each premise of slice soundness is needed, in Strict and in Permissive. Of each example all
--- premises hold but the one that is named, and evaluation in the part of the store differs from
--- evaluation in the store.
+-- Each premise of slice soundness is needed, in Strict and in Permissive. Each example meets all
+-- premises but the one that its comment names, and evaluates over the part of the store otherwise
+-- than over the store.
 use Rattle.cedar_types.specs.declared.base.types.ValidationMode.{ValidationMode}
 use Rattle.cedar_types.specs.declared.base.types.ValidationMode.TheVariants.{Strict, Permissive}
 use Rattle.cedar_typechecker.specs.Slices.NeededPremises.Levels.{LevelsAreNeededIn}
@@ -20,7 +20,7 @@ pub mod Settings
 pub record SlicePremisesAreNeededIn (m : ValidationMode) : Type 0 where
   -- the level pass is silent
   pub levels : LevelsAreNeededIn m
-  -- the part holds the slice, and is of the store
+  -- the part holds the slice, and has entries of the store alone
   pub parts : PartsAreNeededIn m
   -- the policy passes, and is well-formed
   pub policies : PoliciesAreNeededIn m
@@ -28,7 +28,7 @@ pub record SlicePremisesAreNeededIn (m : ValidationMode) : Type 0 where
   pub worlds : WorldsAreNeededIn m
   -- the schema and the table have no faults, and nothing is external
   pub schemas : SchemasAreNeededIn m
-  -- both slots are linked, where there is one environment alone
+  -- both slots are linked, if there is one environment alone
   pub links : UnlinkedSlotsGoWrongIn m
 
 pub record SlicePremisesAreNeeded : Type 0 where

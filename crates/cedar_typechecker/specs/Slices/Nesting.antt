@@ -1,4 +1,4 @@
--- How deep an expression is nested, and that one within the limit is cut nowhere.
+-- The depth to which an expression is nested: a policy within the limit is cut nowhere.
 use Rattle.std.specs.Prelude.{ℕ, suc, max, ◌≤◌}
 use Rattle.cedar_types.specs.Templates.{PlainTemplate, condition_of}
 use Rattle.cedar_types.specs.Expressions.Tree.{lit, var, slot, unknown, if_then_else, and, or, unary, binary, call, get_attr, has_attr}
@@ -31,7 +31,7 @@ abbrev mutual
   nesting (set_of m ts) = suc (nesting_of_all ts)
   nesting (record_of m fs) = suc (nesting_of_values fs)
 
-  -- the greatest of several expressions
+  -- the greatest depth in several expressions
   pub nesting_of_all : Trees Written → ℕ
   nesting_of_all no_trees = 0
   nesting_of_all (tree t ts) = max (nesting t) (nesting_of_all ts)
@@ -40,8 +40,8 @@ abbrev mutual
   nesting_of_values no_fields = 0
   nesting_of_values (field k t fs) = max (nesting t) (nesting_of_values fs)
 
--- a policy whose condition is nested no deeper than the limit, its scope included, is cut nowhere, by
--- any schema in any mode
+-- a policy whose condition is nested no deeper than the limit, its scope included, is cut nowhere,
+-- by any schema in any mode
 abbrev pub ShallowIsCutNowhere : Type 0
 ShallowIsCutNowhere =
     (b : Basis) (t : PlainTemplate) → nesting (condition_of t) ≤ max_nesting → IsCutNowhere b t

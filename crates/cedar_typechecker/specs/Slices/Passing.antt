@@ -1,5 +1,6 @@
--- What a policy that passes is promised where validation with levels finds some error, but none that
--- the promise is about; and where it requires so many levels.
+-- The promises for a policy that passes: if validation with levels finds errors, but none of
+-- unknown names and none of levels; and over the slice of as many steps as the policy requires
+-- levels.
 use Rattle.std.specs.Prelude.{◌≡◌, ℕ, Bool, true, false, List, Some}
 use Rattle.cedar_types.specs.Errors.{Fault, Finding, Warning, unrecognized_entity_type, unrecognized_action_id, internal_invariant_violation}
 use Rattle.cedar_types.specs.Errors.{maximum_level_exceeded, literal_dereference_target}
@@ -14,8 +15,9 @@ use Rattle.cedar_typechecker.specs.Slices.Validation.{IsKeptInSlices}
 
 -- ---- by the errors of the call
 
--- an unknown type, an unknown action, or what is wrong by the rules of levels. So an id that its
--- enumerated type does not list is none of these
+-- the fault is an unknown type, an unknown action, or one of the rules of levels. An id that its
+-- enumerated type does not list is none of these, because typing does not ask which ids a type
+-- lists
 abbrev pub is_of_names_or_levels : Fault → Bool
 is_of_names_or_levels (unrecognized_entity_type p) = true
 is_of_names_or_levels (unrecognized_action_id u) = true
@@ -24,20 +26,21 @@ is_of_names_or_levels (maximum_level_exceeded n k) = true
 is_of_names_or_levels literal_dereference_target = true
 is_of_names_or_levels f = false
 
+-- no error has such a fault
 abbrev pub NoneOfNamesOrLevels : List Finding → Type 0
 NoneOfNamesOrLevels errors =
     (e : Finding) → IsOneOf e errors → is_of_names_or_levels e.fault ≡ false
 
--- in each world that conforms, of a policy without unknowns, whose slots stand in its scope alone and
--- are bound, where no error is one of these: both halves of the promise
+-- if no error is one of these, both halves of the promise hold in each world that conforms, for a
+-- policy without unknowns, whose slots stand in its scope alone and are bound
 abbrev pub IsKeptBesideErrors : Basis → PlainTemplate → ℕ → List Finding → Type 0
 IsKeptBesideErrors b t n errors =
     NoneOfNamesOrLevels errors → IsSoundAndClosed b
     → (world : World) → IsWellFormed t world.slots → IsConforming b world
     → IsKeptInSlices t n world
 
--- it follows from what validation at n comes to, where the check of the policy passes, by a schema
--- and a table without faults
+-- this follows from the outcome of validation at n, if the check of the policy passes, and the
+-- schema and the table have no faults
 abbrev pub PassingIsKept : Type 0
 PassingIsKept =
     OfEachPassing
@@ -46,14 +49,15 @@ PassingIsKept =
 
 -- ---- by the required level
 
--- in each world that conforms, of a policy without unknown names, where it requires n levels: both
--- halves of the promise, for the slice of n steps
+-- if the policy requires n levels, both halves of the promise hold for the slice of n steps in each
+-- world that conforms, for a policy without unknown names and without unknowns, whose slots stand
+-- in its scope alone and are bound
 abbrev pub IsKeptAtItsLevel : Basis → PlainTemplate → Type 0
 IsKeptAtItsLevel b t =
     (n : ℕ) → IsRequiredLevel b t (Some n) → IsSoundAndClosed b → IsNamedBySchema b.schema t
     → (world : World) → IsWellFormed t world.slots → IsConforming b world
     → IsKeptInSlices t n world
 
--- it follows where the check of the policy passes
+-- this follows if the check of the policy passes, and the schema and the table have no faults
 abbrev pub RequiredLevelSuffices : Type 0
 RequiredLevelSuffices = OfEachPassing IsKeptAtItsLevel

@@ -1,4 +1,6 @@
--- What silence of the level rules promises of a policy that passes, in a part of a store.
+-- The promise of the level rules for a policy that passes: without a level error at n, its
+-- condition evaluates over each part of a store that has the slice of n steps as over the whole
+-- store.
 use Rattle.std.specs.Prelude.{◌≡◌, ℕ, true, false, List, None}
 use Rattle.cedar_types.specs.Errors.{Finding, Warning}
 use Rattle.cedar_types.specs.Extensions.Functions.{table_fault}
@@ -20,38 +22,40 @@ use Rattle.cedar_typechecker.specs.Slices.Soundness.{with_store}
 
 -- ---- the level pass is silent
 
--- no level error in what a check typed
+-- the condition that a check typed has no level error. A failed check typed none
 abbrev pub VerdictIsWithin : LevelSetting → Verdict → Type 0
 VerdictIsWithin s v = (e : Finding) → IsErrorOfVerdict s v e → ⊥
 
--- nor in any environment that the policy is checked in
+-- the policy has no level error in any environment in which it is checked
 abbrev pub PolicyIsWithinLevel : Basis → PlainTemplate → ℕ → Type 0
 PolicyIsWithinLevel b t n =
     (env : Env) → IsOneOf env (checked_envs b.schema b.mode t)
     → (v : Verdict) → ChecksOn b t env v → VerdictIsWithin (levels_on b t n env) v
 
--- ---- what that promises
+-- ---- the promise
 
--- its condition evaluates to the same in a part of the store: the same value, or the same failure
+-- the condition evaluates over a part of the store as over the whole store: to the same value, or
+-- with the same failure
 abbrev pub IsSameIn : PlainTemplate → World → Store → Type 0
 IsSameIn t world part =
     eval (with_store world part) (condition_of t) ≡ eval world (condition_of t)
 
--- in each part that has the slice of n steps
+-- the condition evaluates over each part that has the slice of n steps as over the whole store
 abbrev pub IsSameInSlices : PlainTemplate → World → ℕ → Type 0
 IsSameInSlices t world n =
     (part : Store) → HoldsSlice world.request world.store n part → IsSameIn t world part
 
--- in each world that conforms, at each n at which the level pass is silent
+-- the condition evaluates so in each world that conforms, over each part that has the slice of n
+-- steps, if the level pass is silent at n
 abbrev pub SliceSuffices : Basis → PlainTemplate → Type 0
 SliceSuffices b t =
     (n : ℕ) → IsSoundAndClosed b → IsNamedBySchema b.schema t → PolicyIsWithinLevel b t n
     → (world : World) → IsWellFormed t world.slots → IsConforming b world
     → IsSameInSlices t world n
 
--- ---- of each policy that passes
+-- ---- each policy that passes
 
--- by a schema and a table without faults this follows from what the check of the policy came to
+-- a statement holds for each policy whose check passes, if the schema and the table have no faults
 abbrev pub OfEachPassing : (Basis → PlainTemplate → Type 0) → Type 0
 OfEachPassing P =
     (b : Basis) (t : PlainTemplate)
@@ -60,5 +64,6 @@ OfEachPassing P =
     → (errors errors' : List Finding) (old new : List Warning)
     → CheckedOn b t true errors errors' old new → P b t
 
+-- so a policy that passes needs the slice alone
 abbrev pub PassingNeedsSliceAlone : Type 0
 PassingNeedsSliceAlone = OfEachPassing SliceSuffices

@@ -1,4 +1,5 @@
--- What silence of the level rules promises of an expression that is evaluated in a part of a store.
+-- The promise of the level rules for an expression: without a level error at n, it evaluates over
+-- each part of a store that has the slice of n steps as over the whole store.
 use Rattle.std.specs.Prelude.{◌≡◌, ℕ, ◌≤◌, false, List, [], ◌∷◌, Option, Some, None}
 use Rattle.cedar_types.specs.Extensions.Functions.{table_fault}
 use Rattle.cedar_types.specs.Names.{Text, Uid}
@@ -26,7 +27,7 @@ use Rattle.cedar_typechecker.specs.Slices.Reach.{ids_in, reach, HoldsSlice}
 abbrev pub with_store : World → Store → World
 with_store world part = record world { store = part }
 
--- what levels are checked by where typing is by this setting, at the maximum n
+-- the setting of levels that belongs to a setting of typing, at the maximum n
 abbrev pub levels_in : Setting → ℕ → LevelSetting
 levels_in s n = record {
   action = action_of s.env.request_env;
@@ -37,7 +38,9 @@ levels_in s n = record {
 
 -- ---- the premises
 
--- typing can be relied on in the world, and a part of its store holds the slice of n steps
+-- typing can be relied on in the world, and a part of its store holds the slice of n steps. Both
+-- slots are linked, because an unlinked slot has the type any entity, whose attributes extended
+-- `has` may test without a level error
 pub record IsSliced (s : Setting) (world : World) (n : ℕ) (part : Store) : Type 0 where
   pub schema : has_fault s.env.schema ≡ false
   pub formed : IsFormedFor s.env.mode s.env.schema
@@ -49,8 +52,8 @@ pub record IsSliced (s : Setting) (world : World) (n : ℕ) (part : Store) : Typ
 
 -- ---- the promises
 
--- each expression that has a type, and no level error at n, evaluates to the same in the part,
--- whatever is known and at any depth
+-- each expression that has a type and no level error at n evaluates over the part as over the
+-- store, with any prior capabilities that hold, and at any depth
 abbrev pub EvaluatesAlike : Setting → World → ℕ → Store → Type 0
 EvaluatesAlike s world n part =
     (e : Source) → SlotsBound world.slots e
@@ -63,21 +66,22 @@ abbrev pub ids_found : (Value → List Uid) → Option Value → List Uid
 ids_found ids None = []
 ids_found ids (Some v) = ids v
 
--- the ids in the part of a value that a path selects: an entity stands for itself, whatever
--- attributes are left
+-- the ids in the part of a value that a path selects. An entity stands for itself, whatever
+-- attributes are left, because these are in its own entry
 abbrev pub ids_along : List Text → Value → List Uid
 ids_along [] v = ids_in v
 ids_along (x ∷ path) (VRecord es) = ids_found (ids_along path) (entry_at x es)
 ids_along (x ∷ path) (VEntity u) = u ∷ []
 ids_along (x ∷ path) v = []
 
--- the id is reached in k steps, or in fewer
+-- the id is reached in at most k steps
 abbrev pub IsReachedIn : World → ℕ → Uid → Type 0
 IsReachedIn world k u =
     (j : ℕ) × (j ≤ k) × IsOneOf u (reach world.request world.store j)
 
--- of each target in an expression without level errors at n, what its value holds along its path is
--- reached in no more steps than the target's level
+-- the ids that a target's value holds along the path are reached in no more steps than the target's
+-- level, if the whole has no level error at n. So if the level is below n, the entry of the entity
+-- that is accessed is in the slice
 abbrev pub TargetsReach : Setting → World → ℕ → Type 0
 TargetsReach s world n =
     (e : Source) → SlotsBound world.slots e
@@ -88,8 +92,9 @@ TargetsReach s world n =
     → OnValue (λ v. (u : Uid) → IsOneOf u (ids_along path v)
     → IsReachedIn world (level (levels_in s n).action x path) u) (eval world e)
 
--- ---- where they hold
+-- ---- the laws
 
+-- a promise holds for each part that holds the slice, if typing can be relied on
 abbrev pub OfEachSlice : (Setting → World → ℕ → Store → Type 0) → Type 0
 OfEachSlice P =
     (s : Setting) (world : World) (n : ℕ) (part : Store) → IsSliced s world n part

@@ -1,4 +1,4 @@
--- What a host that goes on with typed conditions over parts of a store may rely on.
+-- The promise to a host that evaluates typed conditions over a part of a store.
 use Rattle.std.specs.Prelude.{◌≡◌, ℕ}
 use Rattle.cedar_types.specs.Environments.{DeclaredEnv, environments_of}
 use Rattle.cedar_types.specs.Templates.{PlainTemplate, condition_of}
@@ -22,11 +22,11 @@ use Rattle.cedar_typechecker.specs.Slices.Soundness.{with_store, levels_in, OfEa
 
 -- ---- an expression
 
--- the copy evaluates to the same in the part of the store as the expression in the whole of it
+-- the copy evaluates over the part of the store as the expression does over the whole store
 abbrev pub EvaluatesInPartAs : World → Store → TypedTree → Source → Type 0
 EvaluatesInPartAs world part x e = eval (with_store world part) x ≡ eval world e
 
--- so does each typed copy without level errors at n
+-- each typed copy without level errors at n does so
 abbrev pub CopiesMeanTheSameInPart : Setting → World → ℕ → Store → Type 0
 CopiesMeanTheSameInPart s world n part =
     (e : Source) → SlotsBound world.slots e
@@ -34,19 +34,22 @@ CopiesMeanTheSameInPart s world n part =
     → (t : Ty) (c : Caps) (x : TypedTree) → Derives s e prior d t c x
     → IsWithinLevel (levels_in s n) x → EvaluatesInPartAs world part x e
 
--- where typing can be relied on in the world, and a part of its store holds the slice of n steps
+-- typed copies do so over each part that holds the slice of n steps, if typing can be relied on in
+-- the world
 abbrev pub CopiesNeedSliceAlone : Type 0
 CopiesNeedSliceAlone = OfEachSlice CopiesMeanTheSameInPart
 
 -- ---- a policy
 
+-- the typed condition of a check does so. A failed check has none
 abbrev pub VerdictMeansTheSameInPart : World → Store → Source → Verdict → Type 0
 VerdictMeansTheSameInPart world part e (succeeds x) = EvaluatesInPartAs world part x e
 VerdictMeansTheSameInPart world part e (irrelevant es x) = EvaluatesInPartAs world part x e
 VerdictMeansTheSameInPart world part e (fails es) = Unit {0}
 
--- in each world that conforms, at each n at which the level pass is silent: the typed condition of the own environment of the
--- request evaluates in each part that has the slice of n steps as the template's condition does in the whole store
+-- the typed condition of the request's own environment evaluates over each part that has the slice
+-- of n steps as the template's condition does over the whole store, in each world that conforms, at
+-- each n at which the level pass is silent
 abbrev pub OwnCopySuffices : Basis → PlainTemplate → Type 0
 OwnCopySuffices b t =
     (n : ℕ) → IsSoundAndClosed b → IsNamedBySchema b.schema t → PolicyIsWithinLevel b t n
@@ -56,6 +59,7 @@ OwnCopySuffices b t =
     → (v : Verdict) → ChecksOn b t (own_env t d) v
     → VerdictMeansTheSameInPart world part (condition_of t) v
 
--- of each policy that passes, by a schema and a table without faults
+-- so the typed conditions of a policy that passes need the slice alone, if the schema and the table
+-- have no faults
 abbrev pub PassingCopyNeedsSliceAlone : Type 0
 PassingCopyNeedsSliceAlone = OfEachPassing OwnCopySuffices

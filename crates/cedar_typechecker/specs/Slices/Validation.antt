@@ -1,4 +1,4 @@
--- What the validation of a policy with levels promises where it finds no error.
+-- The promise of validation with levels, if it finds no error.
 use Rattle.std.specs.Prelude.{◌≡◌, ℕ, true, false, List, [], None}
 use Rattle.cedar_types.specs.Errors.{Finding, Warning}
 use Rattle.cedar_types.specs.Extensions.Functions.{table_fault}
@@ -20,50 +20,54 @@ use Rattle.cedar_typechecker.specs.Slices.Policies.{IsSameInSlices}
 
 -- ---- nothing is nested too deep
 
--- no check of the policy is cut: whatever is visited stands within the limit of depth
+-- no check of the policy is cut: each part that is visited stands within the limit of depth
 abbrev pub IsCutNowhere : Basis → PlainTemplate → Type 0
 IsCutNowhere b t =
     (env : Env) → IsOneOf env (checked_envs b.schema b.mode t)
     → IsCut (setting_on b t.id env) (condition_of t) no_caps 1 → ⊥
 
--- so it is of a policy whose check passes
+-- a policy whose check passes is cut nowhere
 abbrev pub PassingIsCutNowhere : Type 0
 PassingIsCutNowhere =
     (b : Basis) (t : PlainTemplate)
     → (errors errors' : List Finding) (old new : List Warning)
     → CheckedOn b t true errors errors' old new → IsCutNowhere b t
 
--- ---- what no error is worth
+-- ---- the promise of silence
 
--- of a condition in a world
+-- both halves of the promise, for a policy's condition in a world
 pub record IsKeptInSlices (t : PlainTemplate) (n : ℕ) (world : World) : Type 0 where
-  -- it evaluates to a boolean, or fails only for a missing entity, an overflow or an extension call
+  -- the condition evaluates to a boolean, or fails only for a missing entity, an overflow or an
+  -- extension call
   pub safe : IsBooleanOrAllowed (eval world (condition_of t))
-  -- and to the very same in each part of the store that has the slice of n steps
+  -- the condition evaluates over each part of the store that has the slice of n steps as over the
+  -- whole store
   pub same : IsSameInSlices t world n
 
--- where validation at the maximum n finds no error, and nothing is nested too deep: in each world
--- that conforms, of a policy without unknowns, whose slots stand in its scope alone and are bound
+-- if validation at the maximum n finds no error, both halves hold in each world that conforms, for
+-- a policy without unknowns, whose slots stand in its scope alone and are bound. No part may be
+-- nested too deep, because a check that is cut may fail without an error
 abbrev pub SilenceIsKept : Basis → PlainTemplate → ℕ → List Finding → Type 0
 SilenceIsKept b t n errors =
     errors ≡ [] → IsCutNowhere b t → IsSoundAndClosed b
     → (world : World) → IsWellFormed t world.slots → IsConforming b world
     → IsKeptInSlices t n world
 
--- where it warns that the policy is impossible, the condition is never true, with errors or without
+-- if validation warns that the policy is impossible, the condition is never true, with errors or
+-- without
 abbrev pub WarnedIsNeverTrue : Basis → PlainTemplate → List Warning → Type 0
 WarnedIsNeverTrue b t warnings = ImpossibleIsNeverTrue b t [] warnings
 
--- ---- where they come from
+-- ---- both promises
 
--- both promises
+-- silence keeps both halves, and the warning is right
 pub record OutcomeIsKept (b : Basis) (t : PlainTemplate) (n : ℕ) (errors : List Finding)
     (warnings : List Warning) : Type 0 where
   pub silent : SilenceIsKept b t n errors
   pub never_true : WarnedIsNeverTrue b t warnings
 
--- by a schema and a table without faults, as all are that the program makes, both follow from what
--- the validation comes to
+-- both promises follow from the outcome of the validation, if the schema and the table have no
+-- faults, as those that the program makes have none
 abbrev pub OutcomesAreKept : Type 0
 OutcomesAreKept =
     (b : Basis) (t : PlainTemplate)

@@ -15,7 +15,7 @@ pub(crate) enum Base {
     Entity,
     /// A record.
     Record,
-    /// Anything else. Any entity is among it, because its attributes are not known.
+    /// Anything else, the type any entity included, because the schema does not tell its attributes.
     Other,
 }
 

@@ -46,7 +46,7 @@ pub fn one_branch_is_enough()
     ensures met { DemandsAreMet }
 {}
 
-/// The level errors of some expressions: worked rows, and details that are easily got wrong.
+/// The level errors of some expressions: worked rows, and details that are easy to get wrong.
 pub fn examples_of_levels()
     ensures rows { LevelRows }
     ensures details { LevelDetails }

@@ -1,12 +1,11 @@
-// Paths: the keys that are selected of a value.
+// Paths: the keys that are selected from a value.
 ghost use Rattle.std.specs.Prelude.{◌≡◌, ◌∷◌, option_map};
 ghost use Rattle.cedar_types.specs.Names.{text_of};
 ghost use Rattle.cedar_typechecker.specs.Levels.Paths.{keys_along, split_keys};
 
 use std::rc::RcStr;
 
-/// A path: the keys that are selected of a value, one after another. It lies on the stack and takes
-/// no memory.
+/// A path: the keys that are selected from a value, one after another. It lies on the stack and takes no memory.
 #[derive(Clone, Copy)]
 pub(crate) enum Path<'p> {
     /// A list of keys.

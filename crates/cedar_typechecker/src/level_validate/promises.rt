@@ -1,4 +1,4 @@
-//! Laws of what silence of the level rules promises of a policy, each on a function that does nothing.
+//! Laws of the promises for a policy that the level rules accept, each on a function that does nothing.
 ghost use Rattle.cedar_typechecker.specs.Slices.Nesting.{ShallowIsCutNowhere};
 ghost use Rattle.cedar_typechecker.specs.Slices.Passing.{PassingIsKept, RequiredLevelSuffices};
 ghost use Rattle.cedar_typechecker.specs.Slices.Policies.{PassingNeedsSliceAlone};
@@ -6,14 +6,15 @@ ghost use Rattle.cedar_typechecker.specs.Slices.TypedCopies.{PassingCopyNeedsSli
 ghost use Rattle.cedar_typechecker.specs.Slices.Validation.{PassingIsCutNowhere, OutcomesAreKept};
 ghost use Rattle.cedar_typechecker.specs.Validations.{ValidationsAreKept};
 
-/// The condition of a policy that passes, and has no level error at n in any environment, evaluates to the same in each part of
-/// the store that has the slice of n steps.
+/// The condition of a policy that passes, and has no level error at n in any environment, evaluates over each part of
+/// the store that has the slice of n steps as over the whole store: to the same value, or with the same failure.
 pub fn passing_needs_slice_alone()
     ensures { PassingNeedsSliceAlone }
 {}
 
-/// Of such a policy the typed condition of the own environment of a request, where each slot is linked to its variable's own
-/// type, evaluates in each part of the store that has the slice of n steps as the template's condition does in the whole store.
+/// The typed condition of a policy that passes, and has no level error at n in any environment, evaluates over each
+/// part of the store that has the slice of n steps as the template's condition does over the whole store. It is the
+/// typed condition in the request's own environment, which links each slot to its variable's own type.
 pub fn passing_copy_needs_slice_alone()
     ensures { PassingCopyNeedsSliceAlone }
 {}
@@ -24,18 +25,21 @@ pub fn cut_nowhere()
     ensures shallow { ShallowIsCutNowhere }
 {}
 
-/// What validation without levels promises follows from what it comes to.
+/// The promises of validation without levels follow from its outcome: a policy whose only errors are ids that their
+/// enumerated types do not list is safe, and a policy that is warned to be impossible is never true.
 pub fn validations_are_kept()
     ensures { ValidationsAreKept }
 {}
 
-/// What validation with levels promises follows from what it comes to.
+/// The promises of validation with levels follow from its outcome: a policy without errors keeps both halves of the
+/// promise, and a policy that is warned to be impossible is never true.
 pub fn outcomes_are_kept()
     ensures { OutcomesAreKept }
 {}
 
-/// What validation with levels promises it promises too where it finds errors, if the check of the policy passes, and no error is
-/// an unknown type, an unknown action or one of the rules of levels: as where an enumerated type does not list an id.
+/// A policy keeps both halves of the promise even if validation with levels finds errors, if its check passes, and no
+/// error is an unknown type, an unknown action or one of the rules of levels. For example, it may name an id that its
+/// enumerated type does not list.
 pub fn passing_is_kept()
     ensures { PassingIsKept }
 {}

@@ -8,14 +8,14 @@ pub fn slices_hold()
     ensures { SlicesHold }
 {}
 
-/// What has a type and no level error at a maximum evaluates to the same in each part of the store that holds the slice of that
-/// many steps: the same value, or the same failure.
+/// An expression that has a type and no level error at n evaluates over each part of the store that has the slice of n
+/// steps as over the whole store: to the same value, or with the same failure.
 pub fn slice_soundness()
     ensures { SliceSoundness }
 {}
 
-/// A typed copy without level errors at a maximum evaluates in each part of the store that holds the slice of that many steps to
-/// what the expression evaluates to in the whole store.
+/// A typed copy without level errors at n evaluates over each part of the store that has the slice of n steps as the
+/// expression does over the whole store.
 pub fn copies_need_slice_alone()
     ensures { CopiesNeedSliceAlone }
 {}

@@ -18,7 +18,8 @@ use std::collections::BTreeMap;
 use std::rc::RcStr;
 
 impl LevelWalk<'_> {
-    /// The level of a target along a path. The demands of the target and of the parts below it are added.
+    /// The level of a target along a path. The demands of the target and of the parts below it are added. Levels are
+    /// counted up to the greatest `u64`, which changes no error, because a maximum has 32 bits.
     #[cycle(levels)]
     pub(crate) fn target_level(
         &self,
@@ -46,11 +47,12 @@ impl LevelWalk<'_> {
             } => {
                 self.check(test_expr, found)?;
                 let first = self.target_level(then_expr, path, found)?;
-                // a constant test leaves one shared tree for both branches
+                // a constant test leaves one shared tree for both branches, so both have one level
                 if is_constant(test_expr) {
                     return Ok(first);
                 }
                 let second = self.target_level(else_expr, path, found)?;
+                // either branch may give the entity, so the deeper one counts
                 Ok(first.max(second))
             }
             ExprKind::GetAttr(base, attr) => self.access_target(e.loc, base, attr, path, found),

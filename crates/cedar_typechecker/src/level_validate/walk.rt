@@ -58,8 +58,8 @@ impl LevelWalk<'_> {
             } => {
                 self.check(test_expr, found)?;
                 self.check(then_expr, found)?;
-                // a constant test leaves one shared tree for both branches, and 64 nested ones would be walked 2^64
-                // times
+                // a constant test leaves one shared tree for both branches, so the second walk would find nothing new,
+                // and 64 nested ones would be walked 2^64 times
                 if is_constant(test_expr) {
                     return Ok(());
                 }

@@ -4,15 +4,17 @@ ghost use Rattle.cedar_types.specs.Environments.RequestEnvs.{Env, env_of};
 ghost use Rattle.cedar_types.specs.Names.{text_of};
 ghost use Rattle.cedar_types.specs.Schemas.{Schema};
 ghost use Rattle.cedar_types.specs.Schemas.Contents.{schema_of};
-ghost use Rattle.cedar_types.specs.Templates.{template_of};
+ghost use Rattle.cedar_types.specs.Templates.{PlainTemplate, template_of};
 ghost use Rattle.cedar_typing.specs.PolicyCheck.{Verdict};
 ghost use Rattle.cedar_typing.specs.PolicyCheck.Outcome.{Adds};
+ghost use Rattle.cedar_typing.specs.Soundness.Policies.{Basis};
 ghost use Rattle.cedar_typing.specs.TypedExpr.{typed_tree};
 ghost use Rattle.cedar_typing.specs.Views.Checks.{verdict_of};
+ghost use Rattle.cedar_typing.specs.Views.EnvironmentChecks.{checks_left};
 ghost use Rattle.cedar_typechecker.specs.Levels.Demands.{add_demands};
 ghost use Rattle.cedar_typechecker.specs.Levels.Views.{surroundings_of, demands_of};
-ghost use Rattle.cedar_typechecker.specs.Representatives.{AreChecksBy, IsOfDeclared, IsKnown, SurveysOneMore};
 ghost use Rattle.cedar_typechecker.specs.Slices.Surveys.{SurveyIsKept};
+ghost use Rattle.cedar_typechecker.specs.Surveyed.{AreChecksOn, AreAllChecksOn, TakesIn};
 ghost use Rattle.cedar_typechecker.specs.Surveys.{Surveys, IsSurveyOf};
 ghost use Rattle.cedar_typechecker.specs.ValidatorViews.{basis_in};
 
@@ -21,7 +23,8 @@ use crate::rbac::Validator;
 use crate::survey::Survey;
 use crate::survey::demands::insert_all;
 use crate::survey::environments::add_errors;
-use crate::survey::representatives::Representatives;
+use crate::survey::left_out::DecidedScope;
+use crate::survey::scope::admitted;
 use cedar_types::base::{
     ArgumentCheck, CedarType, Expr, PolicyID, Template, ValidationMode, ValidatorSchema,
 };
@@ -31,9 +34,9 @@ use std::alloc::{AllocError, Global};
 use std::collections::{BTreeMap, BTreeSet};
 
 impl<C: ArgumentCheck> Validator<'_, C> {
-    /// Checks a policy in all of its environments, in a mode, and gathers what is found. Each is typed at most once: of those
-    /// whose action the scope does not admit, one says it for all that have its principal's type, its link of the principal's
-    /// slot and its type of action, where its check is irrelevant and finds no error.
+    /// Checks a policy in all of its environments, in a mode, and gathers what is found. Each is typed at most once. If the
+    /// schema alone decides which actions the scope admits, the environments of all others are not typed, because their checks
+    /// are known (`left_out_is_quiet`). Of a policy without slots they are not even looked at, unless its scope has an `in`.
     ///
     /// One typed condition is held at a time. Where memory is refused, the answer is an `AllocError`.
     pub fn survey(
@@ -49,12 +52,8 @@ impl<C: ArgumentCheck> Validator<'_, C> {
     {
         let checker = Typechecker::new(&self.schema, self.extensions, mode);
         let mut survey = Survey::of_nothing(alloc, p.id.clone()?);
-        let mut known = Representatives::none(alloc, &self.schema, &p.action_constraint)?;
         let mut checks = checker.typecheck_by_request_env(alloc, p)?;
-        while let Some(env) = checks.next_env()? {
-            survey.take_in_env(alloc, &self.schema, &checks, &env, &mut known)?;
-            drop(env);
-        }
+        survey.take_in_policy(alloc, &self.schema, mode, p, &mut checks)?;
         Ok(survey)
     }
 }
@@ -76,35 +75,76 @@ impl Survey {
         }
     }
 
-    /// Takes in one environment more: by its check, or by what is known of others with its first tests.
-    fn take_in_env<C: ArgumentCheck>(
+    /// Takes in all environments of a policy.
+    fn take_in_policy<C: ArgumentCheck>(
+        &mut self,
+        alloc: Global,
+        schema: &ValidatorSchema,
+        mode: ValidationMode,
+        template: &Template,
+        checks: &mut RequestEnvChecks<'_, C>,
+    ) -> Result<(), AllocError>
+        ensures surveys { OnOk result ((b : Basis)
+            → AreAllChecksOn C.refusal checks.old schema.now mode b (template_of template.now)
+            → TakesIn b (template_of template.now) self.old self.new (checks_left checks.old)) }
+        ensures policy { self.new.policy_id ≡ self.old.policy_id }
+    {
+        match admitted(alloc, schema, &template.action_constraint)? {
+            None => {
+                self.take_in_rest(alloc, schema, checks)?;
+                Ok(())
+            }
+            Some(admitted) => {
+                let scope = DecidedScope {
+                    schema,
+                    mode,
+                    template,
+                    admitted: &admitted,
+                };
+                self.take_in_decided(alloc, scope, checks)?;
+                Ok(())
+            }
+        }
+    }
+
+    /// Takes in each environment that is still to come.
+    fn take_in_rest<C: ArgumentCheck>(
+        &mut self,
+        alloc: Global,
+        schema: &ValidatorSchema,
+        checks: &mut RequestEnvChecks<'_, C>,
+    ) -> Result<(), AllocError>
+        ensures surveys { OnOk result ((b : Basis) (t : PlainTemplate)
+            → AreChecksOn C.refusal checks.old schema.now b t
+            → TakesIn b t self.old self.new (checks_left checks.old)) }
+        ensures policy { self.new.policy_id ≡ self.old.policy_id }
+    {
+        while let Some(env) = checks.next_env()? {
+            self.take_in_env(alloc, schema, checks, &env)?;
+            drop(env);
+        }
+        Ok(())
+    }
+
+    /// Takes in one environment more, by its check.
+    pub(crate) fn take_in_env<C: ArgumentCheck>(
         &mut self,
         alloc: Global,
         schema: &ValidatorSchema,
         checks: &RequestEnvChecks<'_, C>,
         env: &RequestEnv<'_>,
-        known: &mut Representatives,
     ) -> Result<(), AllocError>
-        ensures surveys { OnOk result ((envs : List Env) (vs : List Verdict)
-            → AreChecksBy C.refusal checks.now schema.now
-            → IsOfDeclared (schema_of schema.now) (env_of env.now)
-            → Surveys (schema_of schema.now) self.old envs vs
-            → IsKnown C.refusal checks.now self.old known.old
-            → SurveysOneMore C.refusal checks.now (schema_of schema.now) self.new known.new
-            (env_of env.now) envs vs) }
+        ensures surveys { OnOk result ((b : Basis) (t : PlainTemplate)
+            → AreChecksOn C.refusal checks.now schema.now b t
+            → TakesIn b t self.old self.new (env_of env.now ∷ [])) }
         ensures policy { self.new.policy_id ≡ self.old.policy_id }
     {
-        let tests = known.tests_of(env)?;
-        if known.contains(&tests) {
-            return Ok(());
-        }
         let check = checks.check(env)?;
-        known.note(tests, &check)?;
         self.take_in(alloc, schema, env, check)?;
         Ok(())
     }
 
-    /// Takes in the check of one environment more. What typed nothing as a whole demands nothing.
+    /// Takes in the check of one environment more. A failed check typed no condition, so it has no demands.
     fn take_in(
         &mut self,
         alloc: Global,

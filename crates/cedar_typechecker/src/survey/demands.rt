@@ -1,4 +1,4 @@
-// What is read off the demands of a policy.
+// The level errors and the required level of a policy, from its demands.
 ghost use Rattle.std.specs.Prelude.{◌≡◌, ◌↔◌, Some, option_map, IfOk, OnOk};
 ghost use Rattle.std.specs.Ordering.{eq_by_cmp};
 ghost use Rattle.std.specs.Set.{IsUnion};
@@ -37,7 +37,7 @@ pub(crate) fn errors_at(
     Ok(errors)
 }
 
-/// The least level that meets all demands, where it is a number of 32 bits.
+/// The least level that meets all demands, if it is a number of 32 bits.
 pub(crate) fn least_level(demands: &BTreeSet<Demand>) -> Option<EntityDerefLevel>
     ensures { option_map (λ l. l.level) result
         ≡ of_32_bits (raise_all (demands_of demands.now.keys) (Some 0)) }
@@ -60,7 +60,7 @@ fn raise(need: Need, least: Option<u64>) -> Option<u64>
     }
 }
 
-/// The level, where it is a number of 32 bits.
+/// The level, if it is a number of 32 bits.
 fn of_32_bits(least: Option<u64>) -> Option<EntityDerefLevel>
     ensures { option_map (λ l. l.level) result ≡ of_32_bits least }
 {
@@ -88,7 +88,7 @@ pub(crate) fn insert_all<E: Ord + Drop>(
 }
 
 impl Demand {
-    /// The error of this demand at a maximum, if it is not met there and no other stands for it.
+    /// The error of this demand at a maximum, if the maximum does not meet it, and no other error stands for it.
     fn error_at(
         &self,
         maximum: u32,
@@ -120,7 +120,7 @@ impl Demand {
     }
 }
 
-/// That this level is required, which is more than the maximum.
+/// The error that this level is required, which is above the maximum.
 fn exceeded(loc: Option<Loc>, id: PolicyID, maximum: u32, level: u64) -> ValidationError
     ensures { finding_of result
         ≡ record { place = loc; policy = text_of id.text; fault = exceeds maximum level } }
@@ -132,7 +132,7 @@ fn exceeded(loc: Option<Loc>, id: PolicyID, maximum: u32, level: u64) -> Validat
     ValidationError::maximum_level_exceeded(loc, id, allowed, required)
 }
 
-/// A level as it is reported.
+/// A level as an error reports it: at most the greatest number of 32 bits.
 fn reported(level: u64) -> u32
     ensures { result ≡ reported level }
 {

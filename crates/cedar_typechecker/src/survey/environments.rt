@@ -1,4 +1,4 @@
-// In which environments the errors of a policy come.
+// The environments in which the errors of a policy occur.
 ghost use Rattle.std.specs.Prelude.{◌≡◌, List, [], ◌∷◌, ◌++◌, option_map, IfOk, OnOk};
 ghost use Rattle.std.specs.BTreeMap.{get};
 ghost use Rattle.cedar_types.specs.Environments.RequestEnvs.{Env, env_of};
@@ -14,13 +14,13 @@ use cedar_types::types::request_env::RequestEnv;
 use std::alloc::{AllocError, Global};
 use std::collections::{BTreeMap, BTreeSet};
 
-/// How many of the environments of an error are kept.
+/// The number of environments that are kept for each error: few, so that a survey does not grow with the environments.
 const MAX_LISTED: usize = 5;
 
-/// What an environment of a policy is about.
+/// An environment of a policy: its types, its action and the links of its slots.
 #[derive(Debug, Drop)]
 pub struct Environment {
-    /// The types and the action of its requests; `None` of an action that is not declared.
+    /// The types and the action of its requests; `None` in the environment of undeclared actions.
     pub request: Option<RequestType>,
     /// The type that `?principal` is linked to, if it is linked.
     pub principal_slot: Option<EntityType>,
@@ -28,10 +28,10 @@ pub struct Environment {
     pub resource_slot: Option<EntityType>,
 }
 
-/// The environments in which an error comes: how many there are, and the first of them.
+/// The environments in which an error occurs: their number, and the first of them.
 #[derive(Debug, Drop)]
 pub struct Environments {
-    /// How many; the greatest number of 64 bits stands for itself and for all greater ones.
+    /// Their number. The greatest number of 64 bits stands for itself and for all greater ones.
     pub count: u64,
     /// The first five, or all of fewer.
     pub listed: Vec<Environment>,
@@ -87,7 +87,7 @@ impl Environments {
     }
 }
 
-/// Takes note that these errors come in an environment.
+/// Takes note that these errors occur in an environment.
 pub(crate) fn add_errors(
     all: &mut BTreeMap<ValidationError, Environments>,
     alloc: Global,
@@ -106,7 +106,7 @@ pub(crate) fn add_errors(
     Ok(())
 }
 
-/// Takes note that this error comes in one environment more.
+/// Takes note that this error occurs in one environment more.
 fn add_error(
     all: &mut BTreeMap<ValidationError, Environments>,
     alloc: Global,

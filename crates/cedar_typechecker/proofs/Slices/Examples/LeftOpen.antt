@@ -1,4 +1,4 @@
--- The premises of both halves hold in the worlds in which much is left open.
+-- The premises of both halves hold in worlds that leave much open.
 use Rattle.std.proofs.Common.{◌≡◌, [], inl, inr, None, refl}
 use Rattle.cedar_types.specs.declared.base.types.ValidationMode.{ValidationMode}
 use Rattle.cedar_types.specs.declared.base.types.ValidationMode.TheVariants.{Strict, Permissive}
@@ -19,7 +19,7 @@ use Rattle.cedar_typechecker.proofs.Slices.Examples.Levels.{level_findings, with
 use Rattle.cedar_typechecker.proofs.Slices.Examples.Modes.{IsEither, in_either}
 use Rattle.cedar_typechecker.proofs.Slices.Stores.{slices_hold}
 
--- what is computed in each mode
+-- the facts that are computed in each mode
 abbrev IsMet : PlainTemplate → World → ValidationMode → Type 0
 IsMet t world m =
     AllHoldIn m (visit_basis m) t world × (level_findings (visit_basis m) t 1 ≡ [])

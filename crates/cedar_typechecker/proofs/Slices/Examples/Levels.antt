@@ -1,5 +1,5 @@
--- The level errors of a policy, computed: in each environment those that the walk finds in what the
--- check comes to.
+-- The level errors of a policy, computed: in each environment those that the walk finds in the
+-- condition that the check typed.
 use Rattle.std.proofs.Common.{◌≡◌, ℕ, List, [], ◌∷◌, ◌⊎◌, inl, inr, refl, ap, ◌∙◌, subst}
 use Rattle.std.specs.List.{flat_map}
 use Rattle.cedar_types.specs.Errors.{Fault, Finding}
@@ -23,7 +23,7 @@ use Rattle.cedar_typechecker.specs.Slices.NeededPremises.Levels.{SuccessesAreWit
 use Rattle.cedar_typechecker.specs.Slices.Policies.{PolicyIsWithinLevel}
 use Rattle.cedar_typechecker.proofs.Levels.Walk.{walk_finds_errors}
 
--- ---- of a verdict
+-- ---- verdicts
 
 abbrev verdict_errors : LevelSetting → Verdict → List Finding
 verdict_errors s (succeeds x) = checked_errors s x
@@ -42,7 +42,7 @@ is_error s (succeeds x) e h = (walk_finds_errors s x e).1 h
 is_error s (irrelevant es x) e h = (walk_finds_errors s x e).1 h
 is_error s (fails es) e h = h
 
--- the same verdict has the same errors, and is a success where the other is
+-- two verdicts that are the same have the same errors, and if one is a success, so is the other
 same_error : (s : LevelSetting) (u v : Verdict) → SameVerdict u v → (e : Finding)
     → IsErrorOfVerdict s v e → IsErrorOfVerdict s u e
 same_error s u v same_success e h = h
@@ -72,7 +72,7 @@ has_fault_of f [] h e i = absurd i
 has_fault_of f (x ∷ xs) h e (inl q) = ap (λ z. z.fault) q ∙ h.0
 has_fault_of f (x ∷ xs) h e (inr i) = has_fault_of f xs h.1 e i
 
--- ---- of a policy
+-- ---- policies
 
 module _ (b : Basis) (t : PlainTemplate) where
   abbrev pub verdict_in : Env → Verdict
@@ -94,7 +94,7 @@ module _ (b : Basis) (t : PlainTemplate) where
   none_of (x ∷ envs) n env (inl q) h = n.0 (subst (λ e. IsSuccess (verdict_in e)) q h)
   none_of (x ∷ envs) n env (inr i) h = none_of envs n.1 env i h
 
-  -- where no check succeeds, none of those that do has level errors
+  -- if no check succeeds, then no success has level errors
   pub no_success : (n : ℕ) → NoneSucceeds (checked_envs b.schema b.mode t)
       → SuccessesAreWithinLevel b t n
   no_success n f env i x c e h =
@@ -106,7 +106,7 @@ module _ (b : Basis) (t : PlainTemplate) where
     abbrev errors_in : Env → List Finding
     errors_in env = verdict_errors (levels_on b t n env) (verdict_in env)
 
-    -- those of each environment that it is checked in
+    -- the level errors of all environments in which the policy is checked
     abbrev pub level_findings : List Finding
     level_findings = flat_map errors_in (checked_envs b.schema b.mode t)
 
@@ -131,7 +131,7 @@ module _ (b : Basis) (t : PlainTemplate) where
         by (inl i) later = (env, inl refl, i)
         by (inr i) later = let l = later i in (l.0, inr l.1, l.2)
 
-    -- where there are none it is within the level
+    -- a policy without such errors is within the level
     pub within : level_findings ≡ [] → PolicyIsWithinLevel b t n
     within none env i v c e h = subst (λ xs. IsOneOf e xs) none (is_found env i v c e h)
 
@@ -148,7 +148,7 @@ module _ (b : Basis) (t : PlainTemplate) where
           q,
         )
 
-    -- the first is of this fault, and so are the others
+    -- a policy has only this fault if one error has it, and so have all others
     pub only : (f : Fault) (e : Finding) → IsOneOf e level_findings → e.fault ≡ f
         → AllHaveFault f level_findings → OnlyFaultIs b t n f
     only f e i q h = record {

@@ -1,4 +1,4 @@
--- What is computed in Strict and in Permissive, in either of them.
+-- Facts that are computed in Strict and in Permissive hold in either of the two modes.
 use Rattle.std.proofs.Common.{◌≡◌, ℕ, [], inl, inr, ◌⊎◌, refl, sym, subst}
 use Rattle.cedar_types.specs.declared.base.types.ValidationMode.{ValidationMode}
 use Rattle.cedar_types.specs.declared.base.types.ValidationMode.TheVariants.{Strict, Permissive}
@@ -11,7 +11,7 @@ use Rattle.cedar_typechecker.proofs.Slices.Examples.Levels.{level_findings, with
 abbrev pub IsEither : ValidationMode → Type 0
 IsEither m = (m ≡ Strict) ⊎ (m ≡ Permissive)
 
--- this is the outcome of the policy's check, and it is within the level
+-- the policy's check has this outcome, and the policy is within the level
 abbrev pub IsFine : (Basis → PlainTemplate → Type 0) → Basis → PlainTemplate → ℕ → Type 0
 IsFine Passed b t n = Passed b t × PolicyIsWithinLevel b t n
 
@@ -23,7 +23,8 @@ module _ (m : ValidationMode) where
   pub sound : IsEither m → IsSoundMode m
   sound = in_either IsSoundMode refl refl
 
-  -- in both modes the check comes to this, and no level error is found
+  -- a policy is so in either mode if in both its check has this outcome, and no level error is
+  -- found
   pub fine : IsEither m → (Passed : Basis → PlainTemplate → Type 0) (b : ValidationMode → Basis)
       (t : PlainTemplate) (n : ℕ) → Passed (b Strict) t → Passed (b Permissive) t
       → level_findings (b Strict) t n ≡ [] → level_findings (b Permissive) t n ≡ []

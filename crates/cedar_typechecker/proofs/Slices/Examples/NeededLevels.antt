@@ -1,4 +1,4 @@
--- Policies with one level error evaluate to something else in the slice.
+-- Policies with one level error evaluate over the slice otherwise than over the store.
 use Rattle.std.proofs.Common.{◌≡◌, ℕ, inl, true, false, refl}
 use Rattle.cedar_types.specs.declared.base.types.ValidationMode.{ValidationMode}
 use Rattle.cedar_types.specs.declared.base.types.ValidationMode.TheVariants.{Strict, Permissive}
@@ -28,7 +28,7 @@ pub missing_or_overflow : Fails MissingEntity ≡ Fails Overflow → ⊥
 missing_or_overflow h = cc
 
 module _ (m : ValidationMode) (either : IsEither m) where
-  -- a policy of which, in each of the two modes, the check passes and one thing is wrong
+  -- a policy whose check passes in each of the two modes, and which has one fault
   one_fault : (Passed : Basis → PlainTemplate → Type 0) (t : PlainTemplate) (n : ℕ) (f : Fault)
       (o o' : Outcome)
       → IsAskedPolicy (wiki_basis m) t reading → AreStoredIn reading.store (slice_of reading n)
@@ -88,7 +88,7 @@ module _ (m : ValidationMode) (either : IsEither m) where
       (passing _ _ _ refl refl refl, only _ _ _ _ _ (inl refl) refl (refl, tt))
       (passing _ _ _ refl refl refl, only _ _ _ _ _ (inl refl) refl (refl, tt))
 
-  -- each part has the slice of no steps
+  -- each part has the slice of zero steps
   alice_held : HoldsSlice reading.request reading.store 0 alice_alone
   alice_held =
       record { of_store = listed alice_alone reading.store (refl, tt); of_slice = λ u e h. absurd (none_is h) }

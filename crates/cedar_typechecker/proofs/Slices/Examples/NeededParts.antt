@@ -1,4 +1,4 @@
--- Where one entry is not as it is in the store, evaluation in the part differs.
+-- Evaluation over a part differs if one entry is not as it is in the store.
 use Rattle.std.proofs.Common.{inl, ◌∷◌, refl}
 use Rattle.cedar_types.specs.declared.base.types.ValidationMode.{ValidationMode}
 use Rattle.cedar_typing.specs.Examples.PolicySoundness.{Passes}

@@ -1,5 +1,5 @@
--- Policies that fail their check, that name what is not known, or that have slots in the rest,
--- evaluate to something else in the slice.
+-- Policies that fail their check, that name unknown types or actions, that have unknowns, or that
+-- have slots in the rest, evaluate over the slice otherwise than over the store.
 use Rattle.std.proofs.Common.{◌≡◌, false, List, [], ◌∷◌, map, refl}
 use Rattle.std.proofs.lemmas.List.Sorted.{IsPermutation-refl}
 use Rattle.cedar_types.specs.declared.base.types.ValidationMode.{ValidationMode}
@@ -30,7 +30,7 @@ use Rattle.cedar_typechecker.proofs.Slices.Examples.Modes.{IsEither, IsFine, in_
 use Rattle.cedar_typechecker.proofs.Slices.Examples.World.{reading_asked, staff_bound, formed, policy_asked, fails_or_gives, gives_or_fails}
 use Rattle.cedar_typechecker.proofs.Slices.Examples.World.{differs, held}
 
--- ---- what the checks come to
+-- ---- the outcomes of the checks
 
 abbrev IsRefused : ValidationMode → Type 0
 IsRefused m = CheckedOn (wiki_basis m) unguarded false [] (unguarded_access ∷ []) [] []
@@ -56,7 +56,7 @@ module _ (m : ValidationMode) (either : IsEither m) where
   others =
       record { asked = reading_asked m; held = held reading 0 tt }
 
-  -- there is one environment
+  -- the policy is checked in one environment
   refused : RefusedPoliciesGoWrongIn m
   refused = record {
     others = others;

@@ -1,5 +1,5 @@
--- Where the schema or the table has a fault, a type is external, or names in types do not ascend,
--- evaluation in the slice differs.
+-- Evaluation over the slice differs if the schema or the table has a fault, a type is external, or
+-- names in types do not ascend.
 use Rattle.std.proofs.Common.{◌≡◌, inl, Bool, true, false, ◌&&◌, ◌||◌, [], ◌∷◌, Option, Some, None, if◌then◌else◌, refl, sym, ◌∙◌, subst}
 use Rattle.cedar_types.specs.declared.base.expressions.extensions.ExtensionTableError.{ExtensionTableError}
 use Rattle.cedar_types.specs.declared.base.types.ValidationMode.{ValidationMode}
@@ -43,12 +43,12 @@ premises b faulty formed fault world s t f w =
 
 -- ---- an action that is declared twice
 
--- of three declarations the first two have no such descendant
+-- the first two of three declarations have no such descendant
 without_first : (a b : Bool) → ((a && false) || b) ≡ b
 without_first true b = refl
 without_first false b = refl
 
--- the ancestors of both actions are by the last declaration alone
+-- the last declaration alone decides the ancestors of both actions
 by_last : (a b c : Bool) → c ≡ ((a && false) || ((b && false) || (c || false)))
 by_last a b c =
     sym (without_first a ((b && false) || (c || false)) ∙ without_first b (c || false) ∙ or_false c)
@@ -90,7 +90,7 @@ meeting_conforms = record {
 
 -- ---- a function that gives any entity
 
--- a value of the one function is the one value
+-- the one function gives the one value
 owner_gives : (a b : Bool) (f : ExtensionFunction) (v : Value)
     → (if a then Some owner_function else None) ≡ Some f
     → (if a && b then Some (VEntity alice) else None) ≡ Some v → HasType f.return_type v

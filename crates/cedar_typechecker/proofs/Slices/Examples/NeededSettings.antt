@@ -1,4 +1,4 @@
--- In Partial, and where a slot is not linked, evaluation in the slice differs.
+-- Evaluation over the slice differs in Partial, and if a slot is not linked.
 use Rattle.std.proofs.Common.{inl, refl}
 use Rattle.cedar_types.specs.declared.base.types.ValidationMode.{ValidationMode}
 use Rattle.cedar_types.specs.declared.base.types.ValidationMode.TheVariants.{Strict, Permissive, Partial}
@@ -28,7 +28,7 @@ partial_wrong = record {
       (passing _ _ _ refl refl refl, within (wiki_basis Partial) is_no_user 0 refl);
 }
 
--- what a check typed
+-- the condition that a check typed
 abbrev typed_by : Verdict → TypedTree
 typed_by (succeeds x) = x
 typed_by (irrelevant es x) = x
@@ -37,7 +37,7 @@ typed_by (fails es) = no_tree
 abbrev typed_slot : ValidationMode → TypedTree
 typed_slot m = typed_by (policy_check (unlinked m) slot_has_profile)
 
--- the check succeeds, and what it types is within the level
+-- the check succeeds, and the condition that it types is within the level
 abbrev SlotIsWithin : ValidationMode → Type 0
 SlotIsWithin m =
     (x : TypedTree) × PolicyChecks (unlinked m) slot_has_profile (succeeds x)

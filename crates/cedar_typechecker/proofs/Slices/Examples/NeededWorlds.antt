@@ -1,4 +1,4 @@
--- Where the request or the store does not conform, evaluation in the slice differs.
+-- Evaluation over the slice differs if the request or the store does not conform.
 use Rattle.std.proofs.Common.{inl, refl}
 use Rattle.cedar_types.specs.declared.base.types.ValidationMode.{ValidationMode}
 use Rattle.cedar_typing.specs.Examples.PolicySoundness.{PassesWarned}

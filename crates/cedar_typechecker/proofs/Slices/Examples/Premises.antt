@@ -1,4 +1,4 @@
--- The premises of slice soundness hold together, and what is reached is computed.
+-- The premises of slice soundness hold together, and the reached ids are computed.
 use Rattle.std.proofs.Common.{◌≡◌, inl, true, refl}
 use Rattle.cedar_types.specs.declared.base.types.ValidationMode.{ValidationMode}
 use Rattle.cedar_types.specs.declared.base.types.ValidationMode.TheVariants.{Strict, Permissive}

@@ -1,4 +1,4 @@
--- That the promises of silence on these policies are false.
+-- The promises of silence on these policies are false.
 use Rattle.std.proofs.Common.{inl, [], refl, arith}
 use Rattle.cedar_types.specs.declared.base.types.ValidationMode.{ValidationMode}
 use Rattle.cedar_types.specs.declared.base.types.ValidationMode.TheVariants.{Strict, Permissive}

@@ -1,4 +1,4 @@
--- The worlds of the examples conform, and what their parts have.
+-- The worlds of the examples conform; and the entries of the parts of their stores.
 use Rattle.std.proofs.Common.{◌≡◌, ℕ, inl, Bool, true, false, ◌&&◌, ◌||◌, not, cond, if◌then◌else◌, [], ◌∷◌, Some, None, refl, sym, ◌∙◌}
 use Rattle.std.proofs.Common.{subst}
 use Rattle.std.specs.Prelude.{IsTrue, List}
@@ -35,7 +35,7 @@ use Rattle.cedar_typechecker.specs.Slices.Reach.{IsPartOf, HoldsSlice}
 use Rattle.cedar_typechecker.specs.Slices.Soundness.{with_store}
 use Rattle.cedar_typechecker.proofs.Slices.Examples.Modes.{IsFine}
 
--- ---- what is stored fits the types of the wiki, and those with a type more
+-- ---- the stored entities fit the types of the wiki, and these with one more
 
 module _ (ts : List DeclaredType) where
   -- users may be in the staff
@@ -114,7 +114,7 @@ guests_fit acts =
       ),
     )
 
--- ---- a store of a schema with one action, of which nothing is stored but that it is there
+-- ---- a store of a schema with one action, whose entry is empty
 
 no_ancestor : (a : Bool) → false ≡ ((a && false) || false)
 no_ancestor true = refl
@@ -131,7 +131,7 @@ abbrev pub AllStored : Store → List Uid → Type 0
 AllStored store [] = Unit {0}
 AllStored store (u ∷ us) = IsStored store u × AllStored store us
 
--- where each of these is stored, so is what is among them
+-- an id among these is stored, if each of these is
 pub among_stored : (store : Store) (us : List Uid) → AllStored store us
     → (v : Uid) → uid_is_among us v ≡ true → IsStored store v
 among_stored store [] h v q = none_among q
@@ -157,7 +157,7 @@ wiki_conforms p c =
     conforms wiki_types p c wiki_store
     ((refl, read_fits p c), wiki_fits (declared_read p c ∷ [])) (_, refl)
 
--- ---- what is asked
+-- ---- the premises
 
 pub sample_kept : (m : ValidationMode) → KeepsTable (wiki_basis m).table sample_functions
 sample_kept m = record {
@@ -205,7 +205,7 @@ formed t u a = record {
   bound = slots_bound staff_slots staff_bound (condition_of t);
 }
 
--- what is asked of a policy, in a world whose slots are bound to the staff
+-- the premises on a policy, in a world whose slots are bound to the staff
 pub policy_asked : (b : Basis) (t : PlainTemplate) (world : World) → world.slots ≡ staff_slots
     → unknown_types b.schema t ≡ [] → unknown_actions b.schema t ≡ []
     → HasNoUnknowns (condition_of t) → SlotsInScopeAlone t → IsAskedPolicy b t world
@@ -216,11 +216,11 @@ policy_asked b t world q types actions u a = record {
 
 -- ---- parts of stores
 
--- each entry is what the store has of its entity
+-- each entry of the part is the one that the store has of its entity
 abbrev pub AreStoredIn : Store → Store → Type 0
 AreStoredIn store part = AllEntities (λ u e. entity_at store u ≡ Some e) part
 
--- so what is found among them is found in the store
+-- entries that are so stored are a part of the store
 pub listed : (part store : Store) → AreStoredIn store part → IsPartOf part store
 listed part store h u e q = all_found (λ u e. entity_at store u ≡ Some e) part h u e q
 
@@ -241,14 +241,14 @@ module _ (v : Uid) where
   first_without e es u n rest true q false k = rest
   first_without e es u n rest false q c k = λ i. if k i then Some e.1 else rest i
 
-  -- without an entity there is the same of each other
+  -- a store without one entity agrees on each other one
   pub without_at : (store : Store) (u : Uid) → (u ≡ v → ⊥)
       → entity_at (without v store) u ≡ entity_at store u
   without_at [] u n = refl
   without_at (e ∷ es) u n =
       first_without e es u n (without_at es u n) (uid_eq v e.0) refl (uid_eq u e.0) refl
 
-  -- and with another entry for it too
+  -- a store with another entry for one entity agrees on each other one too
   pub with_other : (e : Entity) (store : Store) (u : Uid) → (u ≡ v → ⊥)
       → entity_at ((v, e) ∷ store) u ≡ entity_at store u
   with_other e store u n = by (uid_eq u v) refl
@@ -275,7 +275,7 @@ pub differs : (t : PlainTemplate) (world : World) (part : Store) (o o' : Outcome
 differs t world part o o' p q n =
     record { of_part = p; of_store = q; broken = λ h. n (sym p ∙ (h ∙ q)) }
 
--- so a policy of which all is asked differs in the slice
+-- a policy that meets all premises differs over the slice
 pub differs_in_slice : (Passed : Basis → PlainTemplate → Type 0) (b : Basis) (t : PlainTemplate)
     (n : ℕ) (world : World) (o o' : Outcome)
     → IsAskedPolicy b t world → AreStoredIn world.store (slice_of world n)

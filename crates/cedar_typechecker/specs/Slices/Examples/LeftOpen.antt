@@ -1,7 +1,6 @@
--- The premises of both halves hold together, at the least level that is enough, in the worlds in
--- which much is left open: where the principal is the resource, where the resource is an action,
--- where nothing is stored of the principal, where no slot is bound, and where an id stands twice in
--- the store.
+-- The premises of both halves hold together, at the least level that is enough, in worlds that
+-- leave much open: the principal is the resource, the resource is an action, the principal is not
+-- stored, no slot is bound, or an id stands twice in the store.
 use Rattle.std.specs.Prelude.{◌≡◌, true, None}
 use Rattle.cedar_types.specs.declared.base.types.ValidationMode.{ValidationMode}
 use Rattle.cedar_types.specs.declared.base.types.ValidationMode.TheVariants.{Strict, Permissive}
@@ -19,7 +18,8 @@ use Rattle.cedar_typechecker.specs.Slices.Policies.{PolicyIsWithinLevel}
 use Rattle.cedar_typechecker.specs.Slices.Reach.{HoldsSlice}
 use Rattle.cedar_typechecker.specs.Slices.Soundness.{with_store}
 
--- at level 1, and at 0 they do not; the slice leaves out an entity, and the outcome is the same
+-- all premises hold at level 1, and not at 0. The slice leaves out bob, and the outcome over it is
+-- that over the store
 pub record HoldsAtOne (m : ValidationMode) (t : PlainTemplate) (world : World) (o : Outcome) :
     Type 0 where
   pub premises : AllHoldIn m (visit_basis m) t world

@@ -1,5 +1,5 @@
--- Which promises of silence are false: those on policies that need more than the slice, that differ
--- in some part of the store, or that go wrong.
+-- Promises of silence that are false, because the policy needs more than the slice, differs over
+-- some part of the store, or goes wrong.
 use Rattle.std.specs.Prelude.{List, [], ◌∷◌}
 use Rattle.cedar_types.specs.declared.base.types.ValidationMode.{ValidationMode}
 use Rattle.cedar_types.specs.declared.base.types.ValidationMode.TheVariants.{Strict, Permissive}
@@ -16,32 +16,36 @@ use Rattle.cedar_typechecker.specs.Slices.Policies.{SliceSuffices}
 use Rattle.cedar_typechecker.specs.Slices.TypedCopies.{VerdictMeansTheSameInPart}
 use Rattle.cedar_typechecker.specs.Slices.Validation.{IsCutNowhere, SilenceIsKept, WarnedIsNeverTrue}
 
--- over the slice of no steps each of these verdicts means what the condition does over the store
+-- the typed condition of each verdict evaluates over the slice of zero steps as the condition does
+-- over the store
 abbrev pub AllMeanTheSame : PlainTemplate → List Verdict → Type 0
 AllMeanTheSame t [] = Unit {0}
 AllMeanTheSame t (v ∷ vs) =
     VerdictMeansTheSameInPart reading (slice_of reading 0) (condition_of t) v × AllMeanTheSame t vs
 
 pub record SlicePromisesCanBreakIn (m : ValidationMode) : Type 0 where
-  -- of a policy that needs three steps, what two of them promise is false
+  -- the promise at two steps is false for a policy that needs three
   pub too_few : SilenceIsKept (wiki_basis m) guided_page 2 [] → ⊥
-  -- so it is of one that fails over the store and over the slice, but not alike
+  -- the promise is false for a policy that fails over the store and over the slice, but not alike
   pub other_failure : SilenceIsKept (wiki_basis m) overflowing 0 [] → ⊥
-  -- of one that is the same over the slice, and another over a part that has more
+  -- the promise is false for a policy that evaluates over the slice as over the store, but not over
+  -- a part that has more than the slice
   pub other_part : SilenceIsKept (wiki_basis m) both_or_neither 0 [] → ⊥
-  -- and of one that goes wrong over the store, as over each part of it
+  -- the promise is false for a policy that goes wrong over the store, as over each part of it
   pub wrong : SilenceIsKept (wiki_basis m) wrong_policy 0 [] → ⊥
-  -- with an error nothing is promised, nor where a part is nested too deep
+  -- nothing is promised if there is an error, or if a part is nested too deep
   pub with_error : (e : Finding) (es : List Finding)
       → SilenceIsKept (wiki_basis m) guided_page 2 (e ∷ es)
   pub cut : (IsCutNowhere (wiki_basis m) guided_page → ⊥)
       → SilenceIsKept (wiki_basis m) guided_page 2 []
-  -- of a policy that is true, the promise of the warning is false; without it nothing is promised
+  -- the promise of the warning is false for a policy that is true; without the warning nothing is
+  -- promised
   pub warned : WarnedIsNeverTrue (wiki_basis m) true_policy (impossible true_policy ∷ []) → ⊥
   pub not_warned : WarnedIsNeverTrue (wiki_basis m) true_policy []
-  -- of a policy whose check fails, silence of the levels promises nothing
+  -- the promise of the level rules is false for a policy whose check fails
   pub refused : SliceSuffices (wiki_basis m) unguarded → ⊥
-  -- a typed condition that fails where the condition fails, but not alike, does not mean the same
+  -- the promise on typed conditions is false for one that fails as the condition does, but not
+  -- alike
   pub copy : AllMeanTheSame overflowing (checks_of (wiki_basis m) overflowing) → ⊥
 
 pub record SlicePromisesCanBreak : Type 0 where

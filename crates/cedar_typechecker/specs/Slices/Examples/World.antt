@@ -1,4 +1,5 @@
--- What the examples of slices are about: a wiki, whose users read pages, and what is stored of it.
+-- The world of the examples of slices: a wiki, whose users read pages, with its schema, its store
+-- and a request.
 use Rattle.std.specs.Prelude.{ℕ, true, false, List, [], ◌∷◌, Some, None, codes}
 use Rattle.cedar_types.specs.declared.base.types.BoolType.TheVariants.{AnyBool}
 use Rattle.cedar_types.specs.declared.base.types.ValidationMode.{ValidationMode}
@@ -67,7 +68,7 @@ read_context =
     TRecord
     (attr (codes "asker") a_user true (attr (codes "urgent") (TBool AnyBool) true no_attrs)) false
 
--- users read what is of a type
+-- users read entities of one type, with this context
 abbrev pub declared_read : Path → Ty → DeclaredAction
 declared_read what context = record {
   name = read;
@@ -79,17 +80,17 @@ declared_read what context = record {
 abbrev pub wiki_schema : Schema
 wiki_schema = record { types = wiki_types; actions = declared_read page read_context ∷ [] }
 
--- with the sample functions, in a mode
+-- the wiki's schema with the sample functions, in a mode
 abbrev pub wiki_basis : ValidationMode → Basis
 wiki_basis m = record (sample_basis m) { schema = wiki_schema }
 
--- ---- what is stored
+-- ---- the store
 
--- each user is active
+-- the attributes of a user who is active, with some others
 abbrev pub active_with : Entries → Entries
 active_with es = more_entries (codes "active") (VBool true) es
 
--- and lives in Bern, with this mentor
+-- the attributes of a user who is active, lives in Bern and has this mentor
 abbrev pub mentored_by : Uid → Entries
 mentored_by u =
     active_with
@@ -99,7 +100,7 @@ mentored_by u =
     (more_entries (codes "mentor") (VEntity u) no_entries)))
     no_entries)
 
--- the tag `guide`
+-- the tag `guide`, which is this user
 abbrev pub guided_by : Uid → Entries
 guided_by u = more_entries (codes "guide") (VEntity u) no_entries
 
@@ -117,7 +118,7 @@ abbrev pub stored_carol : Entity
 stored_carol =
     record { attributes = active_with no_entries; ancestors = []; tags = guided_by dan }
 
--- a user of whom nothing else is known
+-- a user who is active, and has nothing else
 abbrev pub plain_user : Entity
 plain_user = record { attributes = active_with no_entries; ancestors = []; tags = no_entries }
 
@@ -134,7 +135,7 @@ abbrev pub page_guided_by : Uid → Entity
 page_guided_by u =
     record { attributes = no_entries; ancestors = []; tags = guided_by u }
 
--- all but the action, where the page has this guide
+-- the entries of all but the action, with this guide of the page
 abbrev pub guided_wiki : Uid → Store
 guided_wiki u =
     (home, page_guided_by u)
@@ -146,11 +147,11 @@ guided_wiki u =
     ∷ (staff, stored_staff)
     ∷ []
 
--- of the action nothing is stored but that it is there; bob is the guide
+-- the whole store: the action's entry is empty, and bob is the page's guide
 abbrev pub wiki_store : Store
 wiki_store = (read, stored_action []) ∷ guided_wiki bob
 
--- ---- what is asked
+-- ---- the request
 
 -- each slot is bound to the staff
 abbrev pub staff_slots : Slots
@@ -176,6 +177,6 @@ reading = record {
   functions = sample_functions;
 }
 
--- what it has in its store within some steps
+-- the slice of n steps of the world's store
 abbrev pub slice_of : World → ℕ → Store
 slice_of world n = slice world.request world.store n

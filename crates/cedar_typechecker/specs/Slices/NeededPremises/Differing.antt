@@ -1,5 +1,5 @@
--- What is said of the examples of premises that are needed: what holds of each, and that evaluation
--- in the part of the store differs from evaluation in the store.
+-- Statements on the examples of needed premises: the premises that an example meets, and that
+-- evaluation over the part of the store differs from evaluation over the store.
 use Rattle.std.specs.Prelude.{◌≡◌, ℕ, true, false, None}
 use Rattle.cedar_types.specs.declared.base.types.ValidationMode.{ValidationMode}
 use Rattle.cedar_types.specs.Errors.{Fault, Finding}
@@ -22,9 +22,9 @@ use Rattle.cedar_typechecker.specs.Slices.Policies.{PolicyIsWithinLevel, IsSameI
 use Rattle.cedar_typechecker.specs.Slices.Reach.{HoldsSlice}
 use Rattle.cedar_typechecker.specs.Slices.Soundness.{with_store}
 
--- ---- what holds
+-- ---- premises that an example meets
 
--- of the checker
+-- the premises on the checker
 pub record IsAskedCheckerIn (m : ValidationMode) (b : Basis) : Type 0 where
   pub faultless : has_fault b.schema ≡ false
   pub formed : has_formed_types b.schema ≡ true
@@ -32,39 +32,39 @@ pub record IsAskedCheckerIn (m : ValidationMode) (b : Basis) : Type 0 where
   pub mode : b.mode ≡ m
   pub closed : has_external b.schema ≡ false
 
--- of the checker and of the world
+-- the premises on the checker and on the world
 pub record IsAskedIn (m : ValidationMode) (b : Basis) (world : World) : Type 0 where
   pub checker : IsAskedCheckerIn m b
   pub conforming : IsConforming b world
 
--- of the policy, in that world
+-- the premises on the policy, in this world
 pub record IsAskedPolicy (b : Basis) (t : PlainTemplate) (world : World) : Type 0 where
   pub named : IsNamedBySchema b.schema t
   pub well_formed : IsWellFormed t world.slots
 
--- each level error, in each environment that the policy is checked in, is this fault
+-- each level error, in each environment in which the policy is checked, has this fault
 abbrev pub NoOtherFault : Basis → PlainTemplate → ℕ → Fault → Type 0
 NoOtherFault b t n f =
     (env : Env) → IsOneOf env (checked_envs b.schema b.mode t)
     → (v : Verdict) → ChecksOn b t env v
     → (e : Finding) → IsErrorOfVerdict (levels_on b t n env) v e → e.fault ≡ f
 
--- this is wrong at the maximum n, and nothing else
+-- the policy has this fault at the maximum n, and no other
 pub record OnlyFaultIs (b : Basis) (t : PlainTemplate) (n : ℕ) (f : Fault) : Type 0 where
   pub there : HasLevelError b t n f
   pub alone : NoOtherFault b t n f
 
--- ---- what differs
+-- ---- outcomes that differ
 
--- the condition has the one outcome in the part, and the other in the store
+-- the condition has one outcome over the part, and another over the store
 pub record DiffersIn (t : PlainTemplate) (world : World) (part : Store)
     (in_part in_store : Outcome) : Type 0 where
   pub of_part : eval (with_store world part) (condition_of t) ≡ in_part
   pub of_store : eval world (condition_of t) ≡ in_store
   pub broken : IsSameIn t world part → ⊥
 
--- all is asked of the policy at n, with this outcome of its check, and of the part, which is the
--- slice of n steps: and yet it differs
+-- the policy meets all premises at n, with this outcome of its check, and the part is the slice of
+-- n steps; and yet the outcomes differ
 pub record DiffersInSlice (Passed : Basis → PlainTemplate → Type 0) (b : Basis) (t : PlainTemplate)
     (n : ℕ) (world : World) (in_part in_store : Outcome) : Type 0 where
   pub policy : IsAskedPolicy b t world

@@ -1,5 +1,5 @@
--- That the level pass is silent is needed, and each of its errors counts: policies that pass, with
--- one thing wrong, and that evaluate to something else in the slice of as many steps.
+-- Silence of the level pass is needed, and each of its errors counts. Each policy passes and has
+-- one level fault at n, and evaluates over the slice of n steps otherwise than over the store.
 use Rattle.std.specs.Prelude.{◌≡◌, ℕ, true, false, [], ◌∷◌, codes}
 use Rattle.cedar_types.specs.declared.base.types.ValidationMode.{ValidationMode}
 use Rattle.cedar_types.specs.Errors.{Fault, literal_dereference_target}
@@ -27,8 +27,8 @@ use Rattle.cedar_typechecker.specs.Slices.Policies.{IsSameIn, IsSameInSlices}
 use Rattle.cedar_typechecker.specs.Slices.Reach.{HoldsSlice}
 use Rattle.cedar_typechecker.specs.Slices.Soundness.{with_store}
 
--- with one thing wrong at n, and nothing else, a policy that passes evaluates to something else in
--- the slice of n steps
+-- a policy that passes, with this fault at n and no other, evaluates over the slice of n steps
+-- otherwise than over the store
 pub record OneFaultGoesWrongIn (m : ValidationMode) (Passed : Basis → PlainTemplate → Type 0)
     (t : PlainTemplate) (n : ℕ) (f : Fault) (in_part in_store : Outcome) : Type 0 where
   pub asked : IsAskedIn m (wiki_basis m) reading
@@ -38,13 +38,13 @@ pub record OneFaultGoesWrongIn (m : ValidationMode) (Passed : Basis → PlainTem
   pub held : HoldsSlice reading.request reading.store n (slice_of reading n)
   pub differs : DiffersIn t reading (slice_of reading n) in_part in_store
 
--- one level less than is required, which is 3
+-- the maximum is 2, one less than the required level
 abbrev pub OneLevelLessGoesWrongIn : ValidationMode → Type 0
 OneLevelLessGoesWrongIn m =
     OneFaultGoesWrongIn m Passes guided_page 2 (exceeds 2 3)
     (Fails MissingEntity) (Gives (VBool true))
 
--- `User::"dan".active`, of a user who is not reached
+-- `User::"dan".active`; the request does not reach dan
 abbrev pub dan_is_active : PlainTemplate
 dan_is_active = policy_when (active_of (the dan))
 
@@ -57,8 +57,7 @@ LiteralTargetsGoWrongIn m =
 abbrev pub never_active : PlainTemplate
 never_active = policy_when (and tt (active_of principal) false_lit)
 
--- no environment has level errors in which the check succeeds: those that are irrelevant are left
--- out
+-- no environment in which the check succeeds has a level error; irrelevant ones do not count
 abbrev pub SuccessesAreWithinLevel : Basis → PlainTemplate → ℕ → Type 0
 SuccessesAreWithinLevel b t n =
     (env : Env) → IsOneOf env (checked_envs b.schema b.mode t)
@@ -69,14 +68,14 @@ pub record IrrelevantEnvironmentsCountIn (m : ValidationMode) : Type 0 where
       (Fails MissingEntity) (Gives (VBool false))
   pub others_within : SuccessesAreWithinLevel (wiki_basis m) never_active 0
 
--- ---- what the promise says: the very same, and in each part
+-- ---- the promise is on one failure, and on each part
 
 -- `principal.active == (9223372036854775807 + 1 < 1)`, which fails over each store
 abbrev pub overflowing : PlainTemplate
 overflowing = policy_when (equal (active_of principal) (less too_great one))
 
--- it fails over the store and over the slice, and not alike: over the one the sum is too great, and
--- in the other the principal is missing
+-- the policy fails over the store and over the slice, but not alike: over the store the sum is too
+-- great, and over the slice the principal is missing
 abbrev pub OneFailureIsNotAnotherIn : ValidationMode → Type 0
 OneFailureIsNotAnotherIn m =
     OneFaultGoesWrongIn m Passes overflowing 0 (exceeds 0 1)
@@ -91,8 +90,8 @@ both_or_neither =
 abbrev pub alice_alone : Store
 alice_alone = (alice, stored_alice) ∷ []
 
--- it is true over the store, of both, and over the slice of no steps, of neither; and false in
--- between, though that part has this slice
+-- the policy is true over the store, because both sides are, and over the slice of zero steps,
+-- because neither is. It is false over alice's entry alone, a part that has this slice
 pub record SliceAloneIsNotEachPartIn (m : ValidationMode) : Type 0 where
   pub asked : IsAskedIn m (wiki_basis m) reading
   pub policy : IsAskedPolicy (wiki_basis m) both_or_neither reading

@@ -1,5 +1,5 @@
--- That the part has each entry of the slice, and entries of the store alone, is needed: parts of
--- which one entry is not as it is in the store.
+-- The premises on the part are needed: it has each entry of the slice, and entries of the store
+-- alone. In each part one entry is missing, changed or added.
 use Rattle.std.specs.Prelude.{◌≡◌, not, true, false, ◌∷◌, filter, codes}
 use Rattle.cedar_types.specs.declared.base.types.ValidationMode.{ValidationMode}
 use Rattle.cedar_types.specs.Names.{Uid, uid_eq}
@@ -16,7 +16,7 @@ use Rattle.cedar_typechecker.specs.Slices.NeededPremises.Differing.{IsAskedIn, I
 use Rattle.cedar_typechecker.specs.Slices.Policies.{PolicyIsWithinLevel}
 use Rattle.cedar_typechecker.specs.Slices.Reach.{IsPartOf}
 
--- what is asked but of the part, at level 3
+-- all premises but those on the part, at level 3
 pub record IsGuidedPageIn (m : ValidationMode) : Type 0 where
   pub asked : IsAskedIn m (wiki_basis m) reading
   pub policy : IsAskedPolicy (wiki_basis m) guided_page reading
@@ -29,7 +29,7 @@ pub record IsGuidedPageIn (m : ValidationMode) : Type 0 where
 abbrev pub without : Uid → Store → Store
 without u store = filter (λ e. not (uid_eq u e.0)) store
 
--- it has the slice of 3 steps, but for carol
+-- the part is the slice of 3 steps without carol
 pub record MissingEntriesGoWrongIn (m : ValidationMode) : Type 0 where
   pub others : IsGuidedPageIn m
   pub of_store : IsPartOf (without carol (slice_of reading 3)) reading.store
@@ -46,7 +46,7 @@ idle_carol = record stored_carol {
   attributes = more_entries (codes "active") (VBool false) no_entries;
 }
 
--- it has the whole store, but for her
+-- the part is the whole store with this entry for carol
 pub record ChangedEntriesGoWrongIn (m : ValidationMode) : Type 0 where
   pub others : IsGuidedPageIn m
   pub of_store : (u : Uid) → (u ≡ carol → ⊥)
@@ -60,11 +60,11 @@ pub record ChangedEntriesGoWrongIn (m : ValidationMode) : Type 0 where
 abbrev pub asker_is_active : PlainTemplate
 asker_is_active = policy_when (active_of (dot context (codes "asker")))
 
--- as someone asks of whom nothing is stored
+-- a request that a user asks for of whom nothing is stored
 abbrev pub gone_asks : World
 gone_asks = record reading { request = record reading.request { context = asked_by gone } }
 
--- it has the whole store, and that user
+-- the part is the whole store with an entry for that user
 pub record AddedEntriesGoWrongIn (m : ValidationMode) : Type 0 where
   pub asked : IsAskedIn m (wiki_basis m) gone_asks
   pub policy : IsAskedPolicy (wiki_basis m) asker_is_active gone_asks

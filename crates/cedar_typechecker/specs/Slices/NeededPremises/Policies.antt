@@ -1,6 +1,6 @@
--- What is asked of the policy is needed: that its check passes, that all in it is known, and that
--- its slots stand in its scope alone. (That they are bound is not needed here: where a slot is not
--- bound, evaluation fails for it in each part alike.)
+-- The premises on the policy are needed: its check passes, all in it is known, and its slots stand
+-- in its scope alone. (Bound slots are not needed here, because evaluation fails for an unbound
+-- slot over each part alike.)
 use Rattle.std.specs.Prelude.{◌≡◌, true, false, List, [], ◌∷◌, Some, codes}
 use Rattle.cedar_types.specs.declared.base.names.slots.SlotId.{SlotId}
 use Rattle.cedar_types.specs.declared.base.types.ValidationMode.{ValidationMode}
@@ -25,14 +25,14 @@ use Rattle.cedar_typechecker.specs.Slices.NeededPremises.Differing.{IsAskedIn, I
 use Rattle.cedar_typechecker.specs.Slices.Policies.{PolicyIsWithinLevel}
 use Rattle.cedar_typechecker.specs.Slices.Reach.{HoldsSlice}
 
--- what is asked but of the policy: at level 0, in the part without any entry
+-- all premises but those on the policy, at level 0 and for the part without entries
 pub record IsReadingIn (m : ValidationMode) : Type 0 where
   pub asked : IsAskedIn m (wiki_basis m) reading
   pub held : HoldsSlice reading.request reading.store 0 (slice_of reading 0)
 
--- ---- that its check passes
+-- ---- its check passes
 
--- `resource.getTag("guide").active`, where it is not known that there is a guide
+-- `resource.getTag("guide").active`, without a test that there is a guide
 abbrev pub unguarded : PlainTemplate
 unguarded = policy_when (active_of (guide_of resource))
 
@@ -43,7 +43,7 @@ unguarded_access = record {
   fault = unsafe_tag_access (Some (page ∷ []));
 }
 
--- a check that fails types no condition, so no level error is looked for
+-- a check that fails types no condition, so there is no level error
 pub record RefusedPoliciesGoWrongIn (m : ValidationMode) : Type 0 where
   pub others : IsReadingIn m
   pub policy : IsAskedPolicy (wiki_basis m) unguarded reading
@@ -52,10 +52,10 @@ pub record RefusedPoliciesGoWrongIn (m : ValidationMode) : Type 0 where
   pub differs : DiffersIn unguarded reading (slice_of reading 0)
       (Fails MissingEntity) (Gives (VBool true))
 
--- ---- that all in it is known
+-- ---- all in it is known
 
--- `((if context.urgent then principal else e) has profile.city && e < 1) && false`: where e has no
--- type the `if` has none, no error is found in the extended `has`, and the whole is False
+-- `((if context.urgent then principal else e) has profile.city && e < 1) && false`. If e has no
+-- type, the `if` has none, so the extended `has` has no level error, and the whole is False
 abbrev pub naming : Shape → PlainTemplate
 naming e =
     policy_when
@@ -66,18 +66,19 @@ naming e =
     (less e one))
     false_lit)
 
--- of `Group::"a"` and of `Action::"wave"`, of a type and of an action that the schema does not have
+-- the policies for `Group::"a"` and for `Action::"wave"`: the schema has no such type and no such
+-- action
 abbrev pub of_unknown_type : PlainTemplate
 of_unknown_type = naming (the (record { entity_type = group; eid = codes "a" }))
 
 abbrev pub of_unknown_action : PlainTemplate
 of_unknown_action = naming (the wave)
 
--- of `unknown("x")`
+-- the policy for `unknown("x")`
 abbrev pub of_unknown : PlainTemplate
 of_unknown = naming (unknown tt (named (codes "x")))
 
--- its check passes and it differs, where all else in it is known
+-- the check passes and the outcomes differ, though all else in the policy is known
 pub record NameGoesWrongIn (m : ValidationMode) (t : PlainTemplate) (others : List Finding) :
     Type 0 where
   pub passes : PassesWarned (wiki_basis m) t
@@ -91,7 +92,7 @@ pub record NamesMustBeKnownIn (m : ValidationMode) : Type 0 where
   pub types : NameGoesWrongIn m of_unknown_type (unknown_actions wiki_schema of_unknown_type)
   pub actions : NameGoesWrongIn m of_unknown_action (unknown_types wiki_schema of_unknown_action)
 
--- its check passes and it differs, where all names in it are known and its slots are bound
+-- the check passes and the outcomes differ, though all names are known and the slots are bound
 pub record KnownGoesWrongIn (m : ValidationMode) (t : PlainTemplate) (in_part in_store : Outcome) :
     Type 0 where
   pub others : IsReadingIn m
@@ -105,7 +106,7 @@ pub record UnknownsGoWrongIn (m : ValidationMode) : Type 0 where
   pub slots_in_scope : SlotsInScopeAlone of_unknown
   pub goes_wrong : KnownGoesWrongIn m of_unknown (Gives (VBool false)) (Fails UnknownValue)
 
--- ---- that its slots stand in its scope alone
+-- ---- its slots stand in its scope alone
 
 -- `permit(principal == User::"alice", action, resource) when { ?principal is Team &&
 -- principal.active }`: the slot is linked to User alone, and bound to a team

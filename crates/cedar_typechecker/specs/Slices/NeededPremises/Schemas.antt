@@ -1,5 +1,5 @@
--- What is asked of the schema and of the table is needed: that neither has a fault, that nothing in
--- the schema is external, and, in Permissive, that names ascend in its types.
+-- The premises on the schema and on the table are needed: neither has a fault, nothing in the
+-- schema is external, and in Permissive names ascend in its types.
 use Rattle.std.specs.Prelude.{◌≡◌, Bool, true, false, [], ◌∷◌, Option, Some, None, codes}
 use Rattle.cedar_types.specs.declared.base.expressions.extensions.ExtensionTableError.{ExtensionTableError}
 use Rattle.cedar_types.specs.declared.base.expressions.operators.Var.{Var}
@@ -28,12 +28,12 @@ use Rattle.cedar_typechecker.specs.Slices.Examples.World.{page, read, wiki_types
 use Rattle.cedar_typechecker.specs.Slices.Examples.World.{page_guided_by, guided_wiki, wiki_store, reading}
 use Rattle.cedar_typechecker.specs.Slices.NeededPremises.Differing.{DiffersInSlice}
 
--- by another schema, with the sample functions, in a mode
+-- another schema with the sample functions, in a mode
 abbrev pub by_schema : Schema → ValidationMode → Basis
 by_schema s m = record (wiki_basis m) { schema = s }
 
--- whether the schema has a fault, whether names ascend in its types, and the fault of the table;
--- and the world conforms
+-- the schema has a fault or none, names ascend in its types or not, the table has this fault or
+-- none; and the world conforms
 pub record ArePremises (b : Basis) (faulty formed : Bool) (fault : Option ExtensionTableError)
     (world : World) : Type 0 where
   pub of_schema : has_fault b.schema ≡ faulty
@@ -43,7 +43,8 @@ pub record ArePremises (b : Basis) (faulty formed : Bool) (fault : Option Extens
 
 -- ---- a fault of the schema
 
--- `Action::"meet"`, once without descendants, and once more with this one
+-- a schema that declares `Action::"meet"` twice: without descendants, and with `Action::"read"` as
+-- one
 abbrev pub twice_declared : Schema
 twice_declared = record {
   types = wiki_types;
@@ -54,7 +55,7 @@ twice_declared = record {
       ∷ [];
 }
 
--- `action in Action::"meet" && resource.getTag("guide").active`, of which the first is False
+-- `action in Action::"meet" && resource.getTag("guide").active`, whose left side is False
 abbrev pub read_is_meeting : PlainTemplate
 read_is_meeting =
     policy_when (and tt (is_in (var tt Var.Action) (the meet)) (active_of (guide_of resource)))
@@ -73,7 +74,7 @@ pub record FaultsGoWrongIn (m : ValidationMode) : Type 0 where
 
 -- ---- a fault of the table
 
--- a function as `twice` is, that gives any entity, which is alice
+-- `owner`, a function like `twice` that gives any entity, and here gives alice
 abbrev pub owner : Path
 owner = named (codes "owner")
 
@@ -93,7 +94,8 @@ owned_basis m = record (wiki_basis m) {
   table = record { functions = owner_function ∷ []; overloaded_types = [] };
 }
 
--- `owner() has profile`, as an extended `has` of one attribute: of any entity it has no level error
+-- `owner() has profile`, as an extended `has` of one attribute, which has no level error on any
+-- entity
 abbrev pub owner_has_profile : PlainTemplate
 owner_has_profile = policy_when (ext_has_attr tt (call0 owner) (codes "profile") [])
 
@@ -109,18 +111,18 @@ pub record TableFaultsGoWrongIn (m : ValidationMode) : Type 0 where
 
 -- ---- an external type
 
--- users read guests, of whom nothing is known
+-- users read guests, whose type is external
 abbrev pub guests : Schema
 guests = record {
   types = declared_guest ∷ wiki_types;
   actions = declared_read guest read_context ∷ [];
 }
 
--- `resource.hasTag("guide") && resource.getTag("guide").active`, of which the first is False
+-- `resource.hasTag("guide") && resource.getTag("guide").active`, whose left side is False
 abbrev pub guided_guest : PlainTemplate
 guided_guest = policy_when (and tt (has_guide resource) (active_of (guide_of resource)))
 
--- a guest has a guide all the same
+-- a world in which a guest has a guide all the same
 abbrev pub reading_a_guest : World
 reading_a_guest = record reading {
   request = record reading.request { resource = a_guest };
@@ -140,7 +142,7 @@ pub record SchemasAreNeededIn (m : ValidationMode) : Type 0 where
 
 -- ---- names that do not ascend
 
--- a request comes with a record of two attributes, and with one that has one name twice
+-- the context has a record of two attributes, and one that has one name twice
 abbrev pub unformed : Schema
 unformed = record { types = wiki_types; actions = declared_read page twice_context ∷ [] }
 
@@ -148,7 +150,7 @@ abbrev pub unformed_basis : Basis
 unformed_basis = by_schema unformed Permissive
 
 -- `(if principal == User::"bob" then context.twice else context.both) has b && principal.active`,
--- of which the first is False
+-- whose left side is False
 abbrev pub active_with_b : PlainTemplate
 active_with_b =
     policy_when

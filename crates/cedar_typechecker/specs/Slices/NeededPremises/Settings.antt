@@ -1,6 +1,6 @@
--- That the mode is Strict or Permissive is needed; and, where slice soundness speaks of an
--- expression in one environment, that both slots are linked. (In the environments that a policy is
--- checked in, each slot that occurs is.)
+-- The premises on the mode and on links are needed: the mode is Strict or Permissive, and both
+-- slots are linked if there is one environment alone. (The environments in which a policy is
+-- checked link each slot that occurs.)
 use Rattle.std.specs.Prelude.{◌≡◌, true, false, [], Some, None, codes}
 use Rattle.cedar_types.specs.declared.base.expressions.operators.UnaryOp.{UnaryOp}
 use Rattle.cedar_types.specs.declared.base.names.slots.SlotId.{SlotId}
@@ -36,16 +36,17 @@ use Rattle.cedar_typechecker.specs.Slices.Soundness.{with_store, levels_in}
 abbrev pub if_urgent : Shape → Shape → Shape
 if_urgent a b = if_then_else tt (dot context (codes "urgent")) a b
 
--- `if context.urgent then (if context.urgent then {a: resource} else {b: 1}).a else principal`, of
--- a user, since what only one of two records has is of no type; it is a page
+-- `if context.urgent then (if context.urgent then {a: resource} else {b: 1}).a else principal`,
+-- whose type is User, because an attribute that only one of two records has is Never in Partial.
+-- Its value is a page
 abbrev pub page_as_user : Shape
 page_as_user =
     if_urgent
     (dot (if_urgent (record1 (codes "a") resource) (record1 (codes "b") one)) (codes "a"))
     principal
 
--- `!(.. is User) && principal has profile` with that, the second as an extended `has` of one
--- attribute
+-- `!(e is User) && principal has profile`, where e is that `if`, and the right side is an extended
+-- `has` of one attribute
 abbrev pub is_no_user : PlainTemplate
 is_no_user =
     policy_when
@@ -66,7 +67,7 @@ unlinked m =
     (record { principal = user; action = read; resource = page; context = read_context }) None
     None)
 
--- `{a: ?principal} has a.profile`: of any entity it has no level error
+-- `{a: ?principal} has a.profile`, which has no level error, because an unlinked slot is any entity
 abbrev pub slot_has_profile : Source
 slot_has_profile =
     numbered

@@ -1,5 +1,5 @@
--- What is asked of the world is needed: that the request and the store conform. (That the extension
--- functions keep their table is not needed here: no value that they give is looked up in the
+-- The premises on the world are needed: the request and the store conform. (It is not needed here
+-- that the extension functions keep their table, because no value of theirs is looked up in the
 -- store.)
 use Rattle.std.specs.Prelude.{ℕ, true, [], ◌∷◌, codes}
 use Rattle.cedar_types.specs.declared.base.types.ValidationMode.{ValidationMode}
@@ -17,7 +17,7 @@ use Rattle.cedar_typechecker.specs.Slices.Examples.{active_of, has_guide, guide_
 use Rattle.cedar_typechecker.specs.Slices.Examples.World.{read, wiki_schema, wiki_basis, guided_wiki, reading}
 use Rattle.cedar_typechecker.specs.Slices.NeededPremises.Differing.{IsAskedCheckerIn, DiffersInSlice}
 
--- the checker and the functions are as asked, and yet the policy differs
+-- the checker and the functions meet the premises, and yet the outcomes differ
 pub record WikiGoesWrongIn (m : ValidationMode) (t : PlainTemplate) (n : ℕ) (world : World) :
     Type 0 where
   pub checker : IsAskedCheckerIn m (wiki_basis m)
@@ -31,7 +31,8 @@ is_led a = and tt (is_type tt a team) (active_of (dot a (codes "lead")))
 
 -- ---- the request
 
--- that of the principal, of whom it is False, and the staff reads
+-- the test above of the principal, which is False, because principals are users; and yet the staff
+-- reads
 abbrev pub teams_read : PlainTemplate
 teams_read = policy_when (is_led principal)
 
@@ -44,7 +45,8 @@ pub record RequestsMustConformIn (m : ValidationMode) : Type 0 where
 
 -- ---- the store
 
--- `resource.hasTag("guide") && ..` with that of the guide, of whom it is False, and it is the staff
+-- `resource.hasTag("guide") && e`, where e is that test of the guide, which is False, because
+-- guides are users; and yet the staff is the guide
 abbrev pub teams_guide : PlainTemplate
 teams_guide = policy_when (and tt (has_guide resource) (is_led (guide_of resource)))
 

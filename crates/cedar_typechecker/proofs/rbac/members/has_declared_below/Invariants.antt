@@ -6,7 +6,7 @@ use Rattle.cedar_types.specs.Schemas.Contents.{schema_of}
 use Rattle.cedar_types.specs.Types.{types_of}
 use Rattle.cedar_typechecker.proofs.rbac.members.has_declared_below.Given as goal
 
--- the members that are left decide
+-- the members that are left decide, because none so far is among the descendants
 abbrev pub invariant-loop-below : goal.invariant-loop-below
 invariant-loop-below l =
     list_any (is_among (descendants_of (schema_of l.schema).types (type_of l.above))) (map type_of l.below-iterator)

@@ -4,7 +4,7 @@ use Rattle.cedar_typechecker.specs.Levels.Demands.{told}
 use Rattle.cedar_typechecker.specs.Levels.Views.{demands_of, findings}
 use Rattle.cedar_typechecker.proofs.survey.demands.errors_at.Given as goal
 
--- what was found, and what is told of the demands that are left, is told of all
+-- the errors so far, and those of the demands that are left, are those of all
 abbrev pub invariant-loop-demand : goal.invariant-loop-demand
 invariant-loop-demand l =
     findings l.found.items

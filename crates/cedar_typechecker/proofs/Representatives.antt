@@ -1,6 +1,0 @@
--- First tests that stand for others, and their demands.
-pub mod Sets
-pub mod Ties
-pub mod Demands
-pub mod OneMore
-pub mod Declared

@@ -1,0 +1,24 @@
+use Rattle.std.proofs.Common.{◌≡◌, map}
+use Rattle.std.specs.List.{flat_map}
+use Rattle.cedar_types.specs.Environments.{principal_environments}
+use Rattle.cedar_types.specs.Environments.RequestEnvs.{unlinked}
+use Rattle.cedar_types.specs.Names.{type_of, uid_of}
+use Rattle.cedar_types.specs.Templates.{PlainTemplate}
+use Rattle.cedar_types.specs.Types.{types_of, ty_of}
+use Rattle.cedar_typing.specs.Soundness.Policies.{Basis}
+use Rattle.cedar_typechecker.specs.declared.survey.Survey.{Survey}
+use Rattle.cedar_typechecker.specs.Surveyed.{AreChecksOn, TakesIn}
+use Rattle.cedar_typechecker.proofs.survey.Survey.take_in_action.Given as goal
+
+-- a survey that takes in those of the principal types that are left has taken in all
+abbrev pub invariant-loop-principal : goal.invariant-loop-principal
+invariant-loop-principal g l =
+    (l.self.policy_id ≡ l.fn.self.policy_id)
+    × ((b : Basis) (t : PlainTemplate) → AreChecksOn g.C.ArgumentCheck.refusal l.fn.checks l.fn.schema b t
+    → (new : Survey)
+    → TakesIn b t l.self new (map unlinked (flat_map (principal_environments (uid_of l.declared.name)
+    (ty_of l.applies_to.context.value) (types_of l.applies_to.resource_apply_spec))
+    (map type_of l.principal-iterator)))
+    → TakesIn b t l.fn.self new (map unlinked (flat_map (principal_environments (uid_of l.declared.name)
+    (ty_of l.applies_to.context.value) (types_of l.applies_to.resource_apply_spec))
+    (types_of l.applies_to.principal_apply_spec))))
