@@ -1,0 +1,2 @@
+pub mod NodeTypes
+pub mod Examples
