@@ -1,4 +1,4 @@
--- A set of ids, to which one more is added, or some and then more.
+-- A set of ids that gains one more, or some and then more.
 use Rattle.std.proofs.Common.{◌≡◌, ◌⊎◌, inl, inr, ◌||◌, true, false, true≢false, List, [], ◌∷◌, ◌++◌, sym, ◌∙◌, subst}
 use Rattle.cedar_types.specs.Lemmas.Comparisons.{uid_same}
 use Rattle.cedar_types.specs.Names.{Uid, uid_eq}
@@ -10,7 +10,7 @@ use Rattle.cedar_typechecker.proofs.Levels.Inclusions.{in_either}
 use Rattle.cedar_typechecker.proofs.Slices.Stores.{is_among}
 use Rattle.cedar_host.specs.Loading.{AreAmong, AreNew, AddsNew}
 
--- what the test says is so
+-- membership by the test is membership
 pub among : (us : List Uid) (u : Uid) → uid_is_among us u ≡ true → IsOneOf u us
 among [] u h = absurd (true≢false (sym h))
 among (v ∷ us) u h =
@@ -20,13 +20,13 @@ among (v ∷ us) u h =
 -- ---- one id more
 
 module _ (old these new added : List Uid) (x : Uid) (a : AddsNew old these new added) where
-  -- these are there, and one more
+  -- these ids and one more are among others
   with_one : (ids : List Uid) → AreAmong these ids → IsOneOf x ids → AreAmong (these ++ x ∷ []) ids
   with_one ids f h u k =
       in_either these (x ∷ []) u (IsOneOf u ids) k (f u)
       (elim [ inl e ↦ subst (λ z. IsOneOf z ids) (sym e) h | inr i ↦ absurd i ])
 
-  -- an id that the set has
+  -- an id that the set has already
   known : IsOneOf x new → AddsNew old (these ++ x ∷ []) new added
   known h = record {
     kept = a.kept;
@@ -35,7 +35,7 @@ module _ (old these new added : List Uid) (x : Uid) (a : AddsNew old these new a
     of_these = λ u k. in_left u these (x ∷ []) (a.of_these u k);
   }
 
-  -- one that the set lacks is none of the old ones
+  -- an id that the set lacks is none of the old ids
   pub fresh_too : uid_is_among new x ≡ false → AreNew added old → AreNew (added ++ x ∷ []) old
   fresh_too lacks f u i k =
       in_either added (x ∷ []) u ⊥ i (λ j. f u j k)
@@ -44,7 +44,7 @@ module _ (old these new added : List Uid) (x : Uid) (a : AddsNew old these new a
         | inr j ↦ absurd j
       ])
 
-  -- nor one of those that were added
+  -- nor is it one of the added ids
   pub not_added : uid_is_among new x ≡ false → IsOneOf x added → ⊥
   not_added lacks k = true≢false (sym (is_among new x (a.there x (a.of_these x k))) ∙ lacks)
 
@@ -60,7 +60,7 @@ module _ (old these new added : List Uid) (x : Uid) (a : AddsNew old these new a
     before u (inl k) = inl k
     before u (inr k) = inr (in_left u added (x ∷ []) k)
 
-    -- an id that it lacked
+    -- an id that the set lacks
     grown : AddsNew old (these ++ x ∷ []) new' (added ++ x ∷ [])
     grown = record {
       kept = λ u k. stays u (a.kept u k);

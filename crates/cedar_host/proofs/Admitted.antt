@@ -1,4 +1,4 @@
--- Policies that are accepted, over data that was checked.
+-- Accepted policies over checked data.
 use Rattle.std.proofs.Common.{◌≡◌, ◌↔◌, ◌∙◌, ℕ, false, All, Result, ap, get_or, refl, sym, subst}
 use Rattle.std.specs.BTreeMap.{BTreeMap}
 use Rattle.cedar_types.specs.Extensions.Functions.{Refusals}
@@ -37,7 +37,7 @@ module _ {C : Type 0} (meaning : C → Refusals) (a : Accepted C) (request : Req
   pub evaluate_safely : AllEvaluateSafely meaning a request entities
   evaluate_safely k d l world w = (evaluate_in_slices k d l world w).safe
 
--- of one policy that needs the slice alone
+-- the promise for a single policy that needs only the slice
 pub in_slices : (b : Basis) (steps : ℕ) (schema : ValidatorSchema) (template : Template)
     (values : BTreeMap SlotId EntityUID) (request : Request) (entities : Entities)
     → b.schema ≡ schema_of schema → NeedsSliceAlone b (template_of template) steps
@@ -50,7 +50,7 @@ in_slices b steps schema template values request entities same need met world w 
 
 -- ---- over a store that was checked
 
--- P lets a request in over it
+-- P lets a request in over the store
 module _ {C : Type 0} (meaning : C → Refusals) (request : Request) (P : Type 0) where
   abbrev pub LetsIn : Accepted C × Entities → Type 0
   LetsIn s =
@@ -77,7 +77,7 @@ module _ {C : Type 0} (meaning : C → Refusals) (request : Request) (P : Type 0
     pub over_checked : (s : Accepted C × Entities) → (held, stored) ≡ s → LetsIn s
     over_checked s is = subst LetsIn is of_held
 
--- ---- what is answered of one more
+-- ---- the answer on one policy more
 
 pub answered_by : {C : Type 0} (meaning : C → Refusals) (p : LinkedTemplate) (answer : Result (Unit {0}) AdmissionFault)
     (held a : Accepted C) → held ≡ a → AcceptsExactly (basis_by meaning held) (steps_by held) p answer

@@ -1,4 +1,4 @@
--- One more, which was not there.
+-- Distinct elements of a list, and one more that is new.
 use Rattle.std.proofs.Common.{inl, inr, List, [], ◌∷◌, ◌++◌, sym}
 use Rattle.cedar_typing.specs.Evaluation.Conformance.{IsOneOf}
 use Rattle.cedar_typechecker.proofs.Levels.Inclusions.{in_either}

@@ -1,4 +1,4 @@
--- What is found in a policy: sets of errors that gain more, and whether none is found.
+-- Findings in a policy: sets of errors that gain more, and tests that there are none.
 use Rattle.std.proofs.Common.{◌≡◌, ◌↔◌, ℕ, Bool, true, false, ◌&&◌, true≢false, List, [], ◌∷◌, ◌++◌, map, length, ◌⊎◌, inl, inr, refl, sym, ap, subst, ◌∙◌, IsTrue, arith}
 use Rattle.std.specs.Bool.{◌==◌}
 use Rattle.std.specs.BTreeMap.{insert_entry}
@@ -25,9 +25,9 @@ use Rattle.cedar_typechecker.specs.declared.survey.environments.Environments.{En
 use Rattle.cedar_typechecker.specs.Levels.Outcome.{name_findings}
 use Rattle.cedar_typechecker.specs.Levels.Views.{findings}
 
--- ---- whether none is found
+-- ---- lists without findings
 
--- a test that there is none
+-- a test that there are none
 pub silent_of_none : (xs : List ValidationError) (b : Bool) → (IsTrue b ↔ (length xs ≡ 0)) → b ≡ is_silent (findings xs)
 silent_of_none [] true d = refl
 silent_of_none [] false d = d.1 refl
@@ -49,7 +49,7 @@ pub none_left : {A : Type 0} (xs : List A) → length xs ≡ 0 → xs ≡ []
 none_left [] h = refl
 none_left (x ∷ xs) h = absurd (omega arith)
 
--- by the same members there are none, or some
+-- lists with equal members are both empty or neither
 pub silent_by_members : (xs ys : List Finding) → ((x : Finding) → IsOneOf x xs ↔ IsOneOf x ys)
     → is_silent xs ≡ is_silent ys
 silent_by_members [] [] h = refl
@@ -57,7 +57,7 @@ silent_by_members [] (y ∷ ys) h = absurd ((h y).1 (inl refl))
 silent_by_members (x ∷ xs) [] h = absurd ((h x).0 (inl refl))
 silent_by_members (x ∷ xs) (y ∷ ys) h = refl
 
--- in another order the members are the same
+-- a permutation keeps the members
 pub same_members : (xs ys : List Finding) → IsPermutation xs ys → (x : Finding) → IsOneOf x xs ↔ IsOneOf x ys
 same_members xs ys p x = (moved xs ys p x, moved ys xs (IsPermutation-sym xs ys p) x)
 
@@ -70,7 +70,7 @@ adds_none {A} old x = (λ h. in_left x old [] h, λ h. back (in_either x old [] 
     back (inl k) = k
     back (inr k) = absurd k
 
--- what was there is the same as a base, and what is added the same as others
+-- the old members are those of a base, and the added ones are those of others
 pub gained_behind : {A : Type 0} (old these new base others : List A) → Adds old these new
     → ((x : A) → IsOneOf x old ↔ IsOneOf x base) → ((x : A) → IsOneOf x these ↔ IsOneOf x others)
     → (x : A) → IsOneOf x new ↔ IsOneOf x (base ++ others)
@@ -99,7 +99,7 @@ gained_before {A} old these new base others a s o x =
     from (inl k) = (a x).1 (in_right x old these ((o x).1 k))
     from (inr k) = (a x).1 (in_left x old these ((s x).1 k))
 
--- these, and one more
+-- these members, and one more
 pub adds_one_more : {A : Type 0} (old these mid new : List A) (y : A) → Adds old these mid → Adds mid (y ∷ []) new
     → Adds old (these ++ y ∷ []) new
 adds_one_more {A} old these mid new y a b x =
@@ -121,7 +121,7 @@ adds_one_more {A} old these mid new y a b x =
     from (inl k) = (b x).1 (in_left x mid (y ∷ []) ((a x).1 (in_left x old these k)))
     from (inr k) = last (in_either x these (y ∷ []) k)
 
--- ---- keys of a map to which one is added
+-- ---- keys of a map that gains one
 
 module _ {K X F : Type 0} (cmp : K → K → Ordering) (view : K → F)
     (tied : (a b : K) → is_eq (cmp a b) ≡ true → view a ≡ view b) where
@@ -169,7 +169,7 @@ module _ {K X F : Type 0} (cmp : K → K → Ordering) (view : K → F)
   insert_adds k v [] x = (λ h. h, λ h. h)
   insert_adds k v (e ∷ es) x = by_order x k v e es (cmp k e.0) refl (insert_adds k v es x)
 
--- a map of errors to which one is added
+-- a map of errors that gains one
 pub error_added : (x : ValidationError) (none : Environments) (es new : List (ValidationError × Environments))
     → new ≡ insert_entry error_cmp es x none
     → Adds (findings (keys_of es)) (finding_of x ∷ []) (findings (keys_of new))
@@ -177,9 +177,9 @@ error_added x none es new e =
     subst (λ (zs : List (ValidationError × Environments)). Adds (findings (keys_of es)) (finding_of x ∷ []) (findings (keys_of zs)))
     (sym e) (insert_adds error_cmp finding_of (λ a b. (tie_decides a b).0) x none es)
 
--- ---- what is found in a policy
+-- ---- findings in a policy
 
--- names of which nothing is wrong
+-- names without an error
 pub named : (s : Schema) (t : PlainTemplate) → is_silent (name_findings Strict s t) ≡ true → IsNamedBySchema s t
 named s t h =
     let wrong = both_none (wrong_members s t) (unknown_types s t ++ unknown_actions s t) (none_silent (name_findings Strict s t) h) in

@@ -1,4 +1,4 @@
--- Ids that are found in rounds: what each round keeps, and what there is at the end.
+-- Ids that are found in rounds: the invariant of a round, and the result at the end.
 use Rattle.std.proofs.Common.{◌≡◌, ℕ, zero, suc, ◌≤◌, ◌<◌, ◌⊎◌, inl, inr, List, [], sym, subst, arith}
 use Rattle.std.specs.List.{flat_map}
 use Rattle.std.proofs.lemmas.Bool.{cases_lt}
@@ -8,8 +8,8 @@ use Rattle.cedar_typing.proofs.Basics.Members.{in_left, in_right, in_flat, all_f
 use Rattle.cedar_typechecker.proofs.Levels.Inclusions.{in_either}
 use Rattle.cedar_host.specs.Loading.{AreAmong, AreSame, ids_at, ids_below, AddsNew}
 
--- after the first ids and k rounds: the set has what is reached in k steps or fewer, and all that its
--- members hold, but for those that came last
+-- after the first ids and k rounds: the set has each id that is reached in k steps or fewer, and each id
+-- that its members hold, except for the members that came last
 pub record IsRound (answered : Uid → List Uid) (start : List Uid) (k : ℕ) (ids newest : List Uid) :
     Type 0 where
   pub all : AreAmong (ids_below answered start (suc k)) ids
@@ -17,7 +17,7 @@ pub record IsRound (answered : Uid → List Uid) (start : List Uid) (k : ℕ) (i
   pub asked : (u : Uid) → IsOneOf u ids → AreAmong (answered u) ids ⊎ IsOneOf u newest
   pub last : AreAmong newest (ids_at answered start k)
 
--- what one of none or of the newest is
+-- a member of none or of the newest is one of the newest
 pub of_none : (u : Uid) (newest : List Uid) → IsOneOf u [] ⊎ IsOneOf u newest → IsOneOf u newest
 of_none u newest (inl k) = absurd k
 of_none u newest (inr k) = k
@@ -40,7 +40,7 @@ module _ (answered : Uid → List Uid) (start : List Uid) where
 
   module _ (k : ℕ) (ids newest ids' newest' : List Uid) (r : IsRound answered start k ids newest)
       (a : AddsNew ids (flat_map answered newest) ids' newest') where
-    -- what the newest hold is one step further
+    -- the ids that the newest hold are one step further
     further : AreAmong (flat_map answered newest) (At (suc k))
     further =
         all_flat answered (λ u. IsOneOf u (At (suc k))) newest
@@ -76,7 +76,7 @@ module _ (answered : Uid → List Uid) (start : List Uid) where
 
   -- ---- at the end
 
-  -- in no step nothing is reached
+  -- no steps reach no ids
   pub same_at_none : (n : ℕ) (ids : List Uid) → n ≡ 0 → ids ≡ [] → AreSame (Below n) ids
   same_at_none n ids e f =
       subst (λ i. AreSame (Below i) ids) (sym e)
@@ -95,7 +95,7 @@ module _ (answered : Uid → List Uid) (start : List Uid) where
   pub below_same : (j n : ℕ) → j ≡ n → AreAmong (Below j) (Below n)
   below_same j n e u h = subst (λ i. IsOneOf u (Below i)) e h
 
-  -- what is reached in fewer steps is reached in more
+  -- ids that are reached in fewer steps are reached in more
   below_more : (j n : ℕ) → j ≤ n → AreAmong (Below j) (Below n)
   below_more j zero l = below_same j 0 (omega arith)
   below_more j (suc n) l = go (below_more j n) (cases_lt n j)
@@ -120,7 +120,7 @@ module _ (answered : Uid → List Uid) (start : List Uid) where
     all_at_end (suc n) =
         λ u h. in_either (Below n) (At n) u (IsOneOf u ids) h (all_at_end n u) (at_end n u)
 
-    -- where the last round found nothing, more rounds would not
+    -- if the last round found nothing, more rounds find nothing
     pub same_at_end : (n : ℕ) → suc k ≤ n → AreSame (Below n) ids
     same_at_end n l = record {
       all = all_at_end n;

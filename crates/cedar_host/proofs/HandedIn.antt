@@ -1,4 +1,4 @@
--- What is found in rounds, when nothing more than was handed in is held.
+-- Ids that are found in rounds, if the store holds no more than was handed in.
 use Rattle.std.proofs.Common.{◌≡◌, ℕ, zero, suc, ◌-◌, ◌≤◌, ◌<◌, ◌⊎◌, inl, inr, List, [], ◌∷◌, ◌++◌, refl, sym, subst, arith}
 use Rattle.std.specs.List.{flat_map}
 use Rattle.std.proofs.lemmas.Bool.{cases_lt}
@@ -14,7 +14,7 @@ use Rattle.cedar_host.specs.Rounds.{Round, AreAnswered, HaveFound, AreAfter, one
 use Rattle.cedar_host.proofs.LoadedSlices.{loads_of}
 use Rattle.cedar_host.proofs.FoundInRounds.{of_none, starts_below, below_same}
 
--- ---- where the ids are answered so
+-- ---- for answers that give no more than was handed in
 
 module _ (answered : Uid → List Uid) (start : List Uid) (steps : ℕ) where
   abbrev At : ℕ → List Uid
@@ -29,7 +29,7 @@ module _ (answered : Uid → List Uid) (start : List Uid) (steps : ℕ) where
   same : (j n : ℕ) → j ≡ n → AreAmong (Below j) (Below n)
   same = below_same answered start
 
-  -- in no step nothing is reached
+  -- no steps reach no ids
   found_of_none : (left : ℕ) (ids wanted : List Uid) → steps ≡ 0 → left ≡ 0 → Found left ids wanted
   found_of_none left ids wanted e f = record {
     reached = λ u h. absurd (same (steps - left) 0 (omega arith) u h);
@@ -46,7 +46,7 @@ module _ (answered : Uid → List Uid) (start : List Uid) (steps : ℕ) where
     followed = λ l u h. inr (of_none u wanted (a.only u h));
   }
 
-  -- what is found in the last round is not followed
+  -- ids that are found in the last round are not followed
   found_last : (left : ℕ) (ids wanted wanted' : List Uid) → left ≡ 0 → Found left ids wanted
       → Found left ids wanted'
   found_last left ids wanted wanted' e f = record { reached = f.reached; followed = λ l. absurd (not_more l) }
@@ -113,7 +113,7 @@ module _ (answered : Uid → List Uid) (start : List Uid) (steps : ℕ) where
       by (inl more) = all_once left ids f more le steps
       by (inr none) = λ u h. f.reached u (same steps (steps - left) (omega arith) u h)
 
--- ---- one round more is answered
+-- ---- one round more has its answers
 
 pub answered_too : (answered : Uid → List Uid) (left : ℕ) (d : Round) (done : List Round)
     → AreAnswered answered done → ((u : Uid) → IsOneOf u d.asked → AreAmong (answered u) d.held)
@@ -180,7 +180,7 @@ module _ (start : List Uid) (steps : ℕ) (done : List Round) (r next : Rounds) 
         only = subst (λ us. AreAmong us (start ++ flat_map (λ (d : Round). d.held) done)) (sym g) before.only;
       })
 
-  -- any other
+  -- any earlier round
   module _ (more : 0 < left_in r) (a : AddsNew (ids_in r) held (ids_in next) (wanted_in next)) where
     abbrev all : List Round
     all = done ++ this ∷ []

@@ -10,7 +10,10 @@ mod Promises
 mod Refused
 mod Repeats
 mod Reported
+mod ReportOrder
+mod ResponseLaws
 mod SameResponses
 mod LoadedParts
 mod SetLevels
+mod SmallerStores
 mod FoundInRounds

@@ -1,4 +1,4 @@
--- What a loader has after one round more, and at its end.
+-- The state of a loader after one round more, and at its end.
 use Rattle.std.proofs.Common.{◌≡◌, ℕ, zero, suc, ◌+◌, ◌<◌, inl, inr, false, List, [], ◌∷◌, ◌++◌, map, take, length, get_or}
 use Rattle.std.proofs.Common.{Option, Some, None, refl, sym, ap, ◌∙◌, subst, if◌then◌else◌}
 use Rattle.std.specs.List.{flat_map}
@@ -23,7 +23,7 @@ use Rattle.cedar_host.specs.Rounds.{Round, AreAfter, HoldNoMore, FindSlices, one
 use Rattle.cedar_host.proofs.HandedIn.{answered_too}
 use Rattle.cedar_host.proofs.SetLevels.{in_taken}
 
--- an element of a list is one of it
+-- an element at an index is a member
 pub at_index : {A B : Type 0} (f : A → B) (xs : List A) (i : ℕ) (x : A) → i < length xs → x ≡ get_or xs i x
     → IsOneOf (f x) (map f xs)
 at_index f xs i x below is =
@@ -40,7 +40,7 @@ missed (x ∷ s) k e u h =
 
 -- ---- one round more
 
--- what holds of the rounds before and of this one
+-- a property of the earlier rounds and of this one holds of all
 of_one_more : (P : Round → Type 0) (left : ℕ) (d : Round) (done : List Round)
     → ((e : Round) → IsOneOf e done → P e) → P d → (e : Round) → IsOneOf e (one_more left d done) → P e
 of_one_more P zero d done ok this e i = ok e i
@@ -64,7 +64,7 @@ module _ (start : List Uid) (steps : ℕ) (l next : Loader) (held : List Uid)
       (u : Uid) → IsOneOf u d.asked
       → IsOneOf u (ids_in next.rounds) × (IsOneOf u (wanted_of next) → ⊥)
 
-  -- what was found before stays so, and is not wanted again
+  -- an id that was found before stays found, and is not wanted again
   stays : (u : Uid) → IsOneOf u (ids_in l.rounds)
       → IsOneOf u (ids_in next.rounds) × (IsOneOf u (wanted_of next) → ⊥)
   stays u i = (kept u i, λ w. fresh u w i)

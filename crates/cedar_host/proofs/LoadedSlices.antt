@@ -1,4 +1,4 @@
--- A store with the entries of the ids that were found has the slice.
+-- Slices in a store with the entries of the ids that were found.
 use Rattle.std.proofs.Common.{ℕ, zero, suc, List, ◌∙◌}
 use Rattle.cedar_types.specs.Names.{Uid}
 use Rattle.cedar_types.specs.Schemas.{uid_is_among}
@@ -21,7 +21,7 @@ module _ (answered : Uid → List Uid) (store : Store)
   Below = ids_below answered start
 
   module _ (r : Request) (starts : AreAmong (reach r store 0) start) where
-    -- what a request reaches is reached by the answers too
+    -- the answers reach each id that a request reaches
     reaches : (n : ℕ) → AreAmong (reach r store n) (At n)
     reaches zero = starts
     reaches (suc n) =
@@ -35,7 +35,7 @@ module _ (answered : Uid → List Uid) (store : Store)
         (λ i. in_left u (Below n) (At n) (reaches_below n u i))
         (λ i. in_right u (Below n) (At n) (reaches n u i))
 
-  -- of ids that have at least what is reached
+  -- for ids that have at least those that are reached
   pub loads_of : (n : ℕ) (ids : List Uid) → AreAmong (Below n) ids → LoadsSlices store start n ids
   loads_of n ids all r starts part l =
       let below = reach_below r store n in

@@ -1,4 +1,4 @@
--- What a host is promised, from what the libraries promise in a sound mode.
+-- Promises to a host, from those of the libraries in a sound mode.
 use Rattle.std.proofs.Common.{◌≡◌, ℕ, ◌≤◌, Bool, true, false, true≢false, List, [], ◌∷◌, length, refl, sym, ◌∙◌, IsTrue, arith}
 use Rattle.std.specs.Prelude.{◌↔◌}
 use Rattle.cedar_types.specs.Errors.{Finding, Warning}
@@ -19,7 +19,7 @@ use Rattle.cedar_host.specs.declared.safety.SoundMode.{SoundMode}
 use Rattle.cedar_host.specs.Safety.{validation_mode, IsSafeToEvaluate, PassesEverywhere, DoesNotGoWrong, IsNeverTrue}
 use Rattle.cedar_host.specs.Slices.{NeedsSliceAlone}
 
--- what passes passes in each environment
+-- a policy that passes, passes in each environment
 pub passes_everywhere :
     (b : Basis) (t : PlainTemplate) (answer : Bool)
     (errors errors' : List Finding) (old new : List Warning)
@@ -29,7 +29,7 @@ passes_everywhere b t answer errors errors' old new o h =
     o.listed (checked_envs b.schema b.mode t) o.verdicts o.in_some_order o.checked
     (sym o.answered ∙ h)
 
--- a set of which a test says that it has no member has none
+-- a set that has no member by a test has none
 pub no_member : {A : Type 0} (xs : List A) (b : Bool) → (IsTrue b ↔ (length xs ≡ 0)) → b ≡ true
     → xs ≡ []
 no_member [] b d e = refl
@@ -61,7 +61,7 @@ module _ (b : Basis) (t : PlainTemplate) (mode : IsSoundMode b.mode) where
     pub impossible_is_never_true : impossible_of s ≡ true → IsNeverTrue b t
     impossible_is_never_true e closed = kept.never_true e (record { mode = mode; closed = closed })
 
-    -- without a level error what passes needs the slice alone
+    -- a policy that passes without a level error needs only the slice
     pub passing_needs_slice_alone : (n : ℕ) → n ≤ 4294967295 → passes_of s ≡ true
         → level_errors_of s n ≡ [] → IsNamedBySchema b.schema t → NeedsSliceAlone b t n
     passing_needs_slice_alone n le e none named closed world formed conforming = record {

@@ -1,4 +1,4 @@
--- Ids that come again, in a list to which one more is added.
+-- Repeated ids of a list that gains one more.
 use Rattle.std.proofs.Common.{◌≡◌, true, false, true≢false, inl, inr, List, [], ◌∷◌, ◌++◌, refl, sym, ap, ◌∙◌, subst, append_assoc}
 use Rattle.std.specs.List.{list_any}
 use Rattle.std.proofs.lemmas.Slice.Eq.{bytes_eq-Decides}
@@ -10,7 +10,7 @@ use Rattle.cedar_typechecker.proofs.Levels.Inclusions.{in_either}
 use Rattle.cedar_host.specs.Repeats.{ComesAgain, ComeAgain, no_ids, first, again, AreRepeats}
 use Rattle.cedar_host.proofs.Distinct.{distinct_more}
 
--- ---- what the test says is so
+-- ---- membership by the test is membership
 
 pub one_of : (t : Text) (ts : List Text) → list_any (text_eq t) ts ≡ true → IsOneOf t ts
 one_of t [] h = absurd (true≢false (sym h))
@@ -24,7 +24,7 @@ none_of t (u ∷ ts) h (inl e) =
     true≢false (sym ((bytes_eq-Decides t u).1 e) ∙ neither_left (text_eq t u) (list_any (text_eq t) ts) h)
 none_of t (u ∷ ts) h (inr k) = none_of t ts (neither_right (text_eq t u) (list_any (text_eq t) ts) h) k
 
--- ---- one more
+-- ---- one id more
 
 later : (t u : Text) (ts : List Text) → ComesAgain t ts → ComesAgain t (ts ++ u ∷ [])
 later t u ts (before, after, e, k) = (
@@ -47,7 +47,7 @@ some_member : (ts : List Text) (t : Text) → ts ++ t ∷ [] ≡ [] → ⊥
 some_member [] t e = cc
 some_member (u ∷ ts) t e = cc
 
--- of no ids none comes again
+-- no ids have no repeats
 pub no_repeats : AreRepeats [] []
 no_repeats = record { all = no_ids; none = λ e. tt; each = λ t i. absurd i }
 

@@ -1,4 +1,4 @@
--- Reports, one after another: each is on its policy, and says no more than was found.
+-- Reports, one after another: each is on its policy, and claims no more than was found.
 use Rattle.std.proofs.Common.{◌≡◌, ℕ, ◌+◌, ◌<◌, Bool, true, false, if◌then◌else◌, List, [], ◌∷◌, ◌++◌, map, take, length, All, get_or, sym, ap, subst, ◌∙◌}
 use Rattle.std.proofs.lemmas.List.{map_push, take_more}
 use Rattle.std.proofs.lemmas.List.Elements.{All-push}
@@ -7,9 +7,10 @@ use Rattle.cedar_typing.specs.Soundness.Policies.{Basis}
 use Rattle.cedar_host.specs.declared.policy_sets.Findings.{Findings}
 use Rattle.cedar_host.specs.declared.reports.PolicyReport.{PolicyReport}
 use Rattle.cedar_host.specs.Found.{IsReportOf, ListsAnError}
+use Rattle.cedar_host.specs.ReportOrder.{IsInOrder}
 use Rattle.cedar_host.specs.Safety.{PassesEverywhere, DoesNotGoWrong, IsNeverTrue, IsRight}
 
--- one more report is on one more policy
+-- one report more is on one policy more
 pub one_more_each :
     {R P : Type 0} (about : R → P) (policies : List P) (i : ℕ) (policy : P) (old new : List R)
     (answer : R) → new ≡ old ++ answer ∷ [] → map about old ≡ take i policies → about answer ≡ policy
@@ -22,19 +23,19 @@ one_more_each about policies i policy old new answer pushed each of_policy below
     ∙ ap (λ p. take i policies ++ p ∷ []) is
     ∙ sym (take_more policies i policy below)
 
--- and says what all say
+-- one report more is as right as all
 pub one_more_right : {R : Type 0} (P : R → Type 0) (old new : List R) (answer : R)
     → new ≡ old ++ answer ∷ [] → All P old → P answer → All P new
 one_more_right P old new answer pushed all right =
     subst (All P) (sym pushed) (All-push P old answer all right)
 
--- what holds of all holds of these too, whether or not there was room for one more
+-- a property of all holds of these too, whether or not there was room for one more
 pub right_if_pushed : {X : Type 0} (P : X → Type 0) (pushed : Bool) (old new : List X) (x : X)
     → new ≡ if◌then◌else◌ {A = List X} pushed (old ++ x ∷ []) old → All P old → P x → All P new
 right_if_pushed P true old new x e all right = one_more_right P old new x e all right
 right_if_pushed P false old new x e all right = subst (All P) (sym e) all
 
--- a report that says of a template what was found in it
+-- a report is right if it tells the findings in its template
 pub right_report : (b : Basis) (r : PolicyReport) (t : PlainTemplate) (accepted impossible : Bool)
     → template_of r.policy.now.template ≡ t
     → r.is_accepted ≡ accepted → r.is_impossible ≡ impossible
@@ -47,14 +48,15 @@ right_report b r t accepted impossible same of_accepted of_impossible checked sa
       never_true = λ h. subst (IsNeverTrue b) (sym same) (never_true (sym of_impossible ∙ h));
     }
 
--- a report of what was found in a policy
+-- a report of the findings in a policy
 pub report_of : (AreFindings : PlainTemplate → Findings → Type 0) (r : PolicyReport) (t : PlainTemplate) (f : Findings)
     → template_of r.policy.now.template ≡ t → AreFindings t f → r.is_accepted ≡ f.is_accepted
-    → r.is_impossible ≡ f.is_impossible → ListsAnError r → IsReportOf AreFindings r
-report_of AreFindings r t f same found accepted impossible refused = record {
+    → r.is_impossible ≡ f.is_impossible → ListsAnError r → IsInOrder r → IsReportOf AreFindings r
+report_of AreFindings r t f same found accepted impossible refused ordered = record {
   outcome = f;
   found = subst (λ (u : PlainTemplate). AreFindings u f) (sym same) found;
   accepted = accepted;
   impossible = impossible;
   refused = refused;
+  ordered = ordered;
 }

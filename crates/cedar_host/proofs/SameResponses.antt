@@ -1,4 +1,4 @@
--- The response to a request, over a part of the store.
+-- Responses to a request over a part of the store.
 use Rattle.std.proofs.Common.{◌≡◌, inl, inr, ℕ, true, false, List, [], ◌∷◌, All, refl, sym, ap, subst}
 use Rattle.cedar_types.specs.Names.{Text}
 use Rattle.cedar_types.specs.Templates.{condition_of}
@@ -23,7 +23,7 @@ use Rattle.cedar_host.specs.Responses.{LinkedPolicy, linked_world, answers, says
 use Rattle.cedar_host.specs.Responses.{response_to, response, NeedSliceAlone, AreWellFormed, ResponsesNeedSliceAlone, ErrorsAreAllowed}
 use Rattle.cedar_host.specs.Responses.{IsAcceptedIn, AcceptedNeedSliceAlone, HaveSameResponses, ImpossibleIsNeverSatisfied}
 
--- where each policy comes to the same, all do
+-- if each policy has an equal outcome, the answers are equal
 pub answers_alike : (world world' : World) (ps : List LinkedPolicy)
     → ((p : LinkedPolicy) → IsOneOf p ps
     → eval (linked_world world' p) (condition_of p.template) ≡ eval (linked_world world p) (condition_of p.template))
@@ -35,7 +35,7 @@ answers_alike world world' (p ∷ ps) h =
     λ j. (record { policy = p; test = test_of (e j) }) ∷ f j
 
 -- a world conforms whatever the slots are bound to
-linked_conforms : (b : Basis) (world : World) (p : LinkedPolicy) → IsConforming b world → IsConforming b (linked_world world p)
+pub linked_conforms : (b : Basis) (world : World) (p : LinkedPolicy) → IsConforming b world → IsConforming b (linked_world world p)
 linked_conforms b world p i = record { request = i.request; store = i.store; functions = i.functions }
 
 module _ (b : Basis) (n : ℕ) (ps : List LinkedPolicy) (need : NeedSliceAlone b n ps) (closed : has_external b.schema ≡ false)
@@ -81,7 +81,7 @@ accepted_need_slice_alone b n reports right ps accepted p one = by (accepted p o
     by : IsAcceptedIn reports p → NeedsSliceAlone b p.template n
     by (r, there, h, e) = subst (λ t. NeedsSliceAlone b t n) e ((right r there).sliced h)
 
--- what the reports of a host say gives the same responses
+-- policies that a host's reports accept give equal responses
 pub accepted_respond_alike : (b : Basis) (n : ℕ) (reports : List SliceReport) → All (IsRightForSlices b n) reports
     → HaveSameResponses b n reports
 accepted_respond_alike b n reports right ps accepted closed world formed i part holds =
@@ -91,7 +91,7 @@ accepted_respond_alike b n reports right ps accepted closed world formed i part 
 
 -- ---- impossible policies
 
-never_says : (o : Outcome) → (IsTrueOutcome o → ⊥) → says_true (test_of o) ≡ false
+pub never_says : (o : Outcome) → (IsTrueOutcome o → ⊥) → says_true (test_of o) ≡ false
 never_says (Gives (VBool true)) f = absurd (f refl)
 never_says (Gives (VBool false)) f = refl
 never_says (Gives v) f = refl

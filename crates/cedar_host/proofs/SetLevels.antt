@@ -7,7 +7,7 @@ use Rattle.cedar_typechecker.proofs.Levels.Inclusions.{in_either}
 use Rattle.cedar_types.proofs.Schema.Places.{next_mapped}
 use Rattle.cedar_host.specs.SetLevels.{IsGreatest}
 
--- what is one of the first is one of all
+-- a member of the first ones is a member of all
 pub in_taken : {A B : Type 0} (f : A → B) (i : ℕ) (xs : List A) (y : B) → IsOneOf y (map f (take i xs))
     → IsOneOf y (map f xs)
 in_taken f zero [] y h = h
@@ -21,7 +21,7 @@ module _ {A : Type 0} (f : A → Option ℕ) (xs : List A) (i : ℕ) (x : A) (be
   one_more : map f (take (i + 1) xs) ≡ map f (take i xs) ++ f x ∷ []
   one_more = next_mapped f xs i x below is
 
-  -- where none is enough for one of them
+  -- if no level is enough for one policy, there is one without a level
   pub none_there : f x ≡ None → IsOneOf None (map f xs)
   none_there e =
       in_taken f (i + 1) xs None

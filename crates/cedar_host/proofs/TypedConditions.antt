@@ -1,4 +1,4 @@
--- What the typed conditions of a policy mean, from what the libraries promise of typed copies.
+-- Meaning of the typed conditions of a policy, from the promises on typed copies.
 use Rattle.std.proofs.Common.{◌≡◌, inl, inr, List, [], ◌∷◌, ◌++◌, map, Option, Some, None, refl, sym, ap, subst, ◌∙◌}
 use Rattle.std.proofs.lemmas.List.{map_push}
 use Rattle.std.specs.Prelude.{IsPermutation}
@@ -24,7 +24,7 @@ use Rattle.cedar_host.specs.declared.conditions.TypedCondition.{TypedCondition}
 use Rattle.cedar_host.specs.Conditions.{env_in, tree_in, typed_condition_in, IsOfCheck, AreOfAllChecks, AreConditionsOf}
 use Rattle.cedar_host.specs.Conditions.{MeansTheCondition, IsOwnOf, CoverRequests, MeanItIfThere}
 
--- what is one of a list under a function comes from one of it
+-- a member of a mapped list comes from a member of the list
 mapped_from : {A B : Type 0} (f : A → B) (b : B) (xs : List A) → IsOneOf b (map f xs)
     → (a : A) × IsOneOf a xs × (f a ≡ b)
 mapped_from f b [] h = absurd h
@@ -33,7 +33,7 @@ mapped_from f b (a ∷ xs) (inr h) =
     let r = mapped_from f b xs h in
     (r.0, inr r.1, r.2)
 
--- the condition that a verdict has means what the verdict's does
+-- the condition in a verdict means what the verdict does
 of_verdict : (world : World) (e : Source) (v : Verdict) (x : TypedTree) → typed_condition_in v ≡ Some x
     → VerdictMeansTheSame world e v → EvaluatesAs world x e
 of_verdict world e (succeeds y) x q h = subst (λ z. EvaluatesAs world z e) (some_is q) h
@@ -89,14 +89,14 @@ one_more_found old new c left left' all pushed first p =
     ∙ ap (λ es. es ++ left') (sym (map_push env_in old c) ∙ sym (ap (map env_in) pushed)))
     p
 
--- none is left
+-- no environment is left
 pub all_found : (cs : List TypedCondition) (left all : List Env) → left ≡ []
     → IsPermutation (map env_in cs ++ left) all → IsPermutation (map env_in cs) all
 all_found cs left all none p =
     subst (λ xs. IsPermutation xs all)
     (ap (λ es. map env_in cs ++ es) none ∙ nil_right (map env_in cs)) p
 
--- the first that was left is one of all
+-- the first environment that was left is one of all
 pub is_one_of_all : (before left left' all : List Env) (e : Env) → left ≡ e ∷ left'
     → IsPermutation (before ++ left) all → IsOneOf e all
 is_one_of_all before left left' all e first p =

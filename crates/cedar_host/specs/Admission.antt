@@ -1,5 +1,5 @@
--- The promise of policies that validation accepts, over data that was checked. No premise is left on the
--- schema, the policies, the request and the entities: only that the extension functions keep the table.
+-- The promise of accepted policies over checked data. The only remaining premise is that the extension functions keep the
+-- table: none is left on the schema, the policies, the request and the entities.
 use Rattle.std.specs.Prelude.{◌≡◌, ◌↔◌, ℕ, true, false, All, Result, IsOk, IfErr}
 use Rattle.cedar_types.specs.Extensions.Functions.{Refusals}
 use Rattle.cedar_types.specs.Schemas.Contents.{schema_of}
@@ -23,45 +23,45 @@ use Rattle.cedar_host.specs.declared.policy_sets.Findings.{Findings}
 use Rattle.cedar_host.specs.Accepted.{Accepted, IsIdOf, basis_by, policies_in, slots_in, steps_by, template_in}
 use Rattle.cedar_host.specs.Found.{AreFindingsWithin}
 
--- ---- of a policy
+-- ---- a single policy
 
--- a world in which it may be evaluated: it has this request and these entities, it binds the slots so,
--- and its extension functions keep the table
+-- a world in which the policy may be evaluated: it has this request and these entities, its slots are bound so, and its
+-- extension functions keep the table
 pub record IsWorldOfPolicy (b : Basis) (request : Request) (entities : Entities) (slots : Slots)
     (world : World) : Type 0 where
   pub of_data : IsWorldOfData request entities world
   pub slots_bound : world.slots ≡ slots
   pub functions : KeepsTable b.table world.functions
 
--- there it gives a boolean, or fails only for a missing entity, an overflow or an extension
--- function
+-- evaluation in such a world gives a boolean, or fails only for a missing entity, an overflow or an extension function
 abbrev pub EvaluatesSafely : Basis → Request → Entities → PlainTemplate → Slots → Type 0
 EvaluatesSafely b request entities t slots =
     (world : World) → IsWorldOfPolicy b request entities slots world
     → IsBooleanOrAllowed (eval world (condition_of t))
 
--- and it gives the very same in each part of the store that has the slice of so many steps
+-- evaluation gives the same result in each part of the store that has the slice of this many steps
 abbrev pub EvaluatesInSlices : Basis → ℕ → Request → Entities → PlainTemplate → Slots → Type 0
 EvaluatesInSlices b steps request entities t slots =
     (world : World) → IsWorldOfPolicy b request entities slots world → IsKeptInSlices t steps world
 
--- ---- of one policy that is validated at once
+-- ---- a policy that is validated at once
 
--- the first premise of it that is not met
+-- the first premise of the policy that is not met
 abbrev pub IsFirstPremise : AdmissionFault → ValidatorSchema → LinkedTemplate → Request → Entities → Type 0
 IsFirstPremise (fault.NotAccepted id) schema p request entities = ⊥
 IsFirstPremise (fault.Policy id f) schema p request entities = ⊥
 IsFirstPremise (fault.Premise f) schema p request entities =
     IsFirstUnmet f schema p.template.now p.values.now request entities
 
--- the first fault of it: validation refuses it; or accepts it, and this is the first premise that is not met
+-- the first fault of the policy: validation refuses it; or validation accepts it, and this is the first premise that is
+-- not met
 abbrev pub IsFirstRefusal : AdmissionFault → Findings → ValidatorSchema → LinkedTemplate → Request → Entities → Type 0
 IsFirstRefusal (fault.NotAccepted id) found schema p request entities = (found.is_accepted ≡ false) × IsIdOf id p
 IsFirstRefusal (fault.Policy id f) found schema p request entities = ⊥
 IsFirstRefusal (fault.Premise f) found schema p request entities =
     (found.is_accepted ≡ true) × IsFirstPremise (fault.Premise f) schema p request entities
 
--- an answer is Ok exactly where the findings in the policy for slices accept it, and the premises are met; else it is the
+-- the answer is Ok exactly if the findings for slices accept the policy and the premises are met; else the answer is the
 -- first fault
 pub record LetsInExactly (b : Basis) (steps : ℕ) (schema : ValidatorSchema) (p : LinkedTemplate) (request : Request)
     (entities : Entities) (answer : Result (Unit {0}) AdmissionFault) : Type 0 where
@@ -71,14 +71,14 @@ pub record LetsInExactly (b : Basis) (steps : ℕ) (schema : ValidatorSchema) (p
       ↔ ((found.is_accepted ≡ true) × ArePremises schema p.template.now p.values.now request entities)
   pub first : IfErr answer (λ f. IsFirstRefusal f found schema p request entities)
 
--- ---- of policies that are accepted
+-- ---- policies that are accepted
 
 -- the schema is closed, and the data conforms
 pub record IsAdmitted (schema : ValidatorSchema) (request : Request) (entities : Entities) : Type 0 where
   pub closed : has_external (schema_of schema) ≡ false
   pub conforming : DataConforms schema request entities
 
--- the first of these that is not so
+-- the first of these premises that is not met
 abbrev pub IsFirstNotAdmitted : PremiseFault → ValidatorSchema → Request → Entities → Type 0
 IsFirstNotAdmitted premise.External schema request entities = has_external (schema_of schema) ≡ true
 IsFirstNotAdmitted (premise.Policy f) schema request entities = ⊥
@@ -88,12 +88,12 @@ IsFirstNotAdmitted (premise.Entities fs) schema request entities =
     (has_external (schema_of schema) ≡ false) × IsFirstOfData (premise.Entities fs) schema request entities
 
 module _ {C : Type 0} (meaning : C → Refusals) where
-  -- by the validator that accepted them, in its mode
+  -- each policy evaluates safely, by the validator that accepted it, in its mode
   abbrev pub AllEvaluateSafely : Accepted C → Request → Entities → Type 0
   AllEvaluateSafely a request entities =
       All (λ p. EvaluatesSafely (basis_by meaning a) request entities (template_in p) (slots_in p)) (policies_in a)
 
-  -- and for slices of its steps
+  -- each policy evaluates in slices of the accepted number of steps
   abbrev pub AllEvaluateInSlices : Accepted C → Request → Entities → Type 0
   AllEvaluateInSlices a request entities =
       All (λ p. EvaluatesInSlices (basis_by meaning a) (steps_by a) request entities (template_in p) (slots_in p))

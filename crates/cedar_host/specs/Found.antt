@@ -1,4 +1,4 @@
--- The findings in a policy: exactly those of its survey, of the passes over its names and of its levels.
+-- Findings in a policy: exactly those of its survey, of the passes over its names and of its levels.
 use Rattle.std.specs.Prelude.{◌≡◌, ◌↔◌, ℕ, Bool, true, false, ◌&&◌, List, [], ◌∷◌, ◌++◌, map, cond}
 use Rattle.std.specs.BTreeMap.{BTreeMap, keys}
 use Rattle.cedar_types.specs.declared.base.errors.validation_errors.ValidationError.{ValidationError}
@@ -16,19 +16,20 @@ use Rattle.cedar_typechecker.specs.Levels.Views.{findings}
 use Rattle.cedar_typechecker.specs.Surveys.{IsSurveyOf, passes_of, impossible_of, applicable_of, errors_of, level_errors_of}
 use Rattle.cedar_host.specs.declared.policy_sets.Findings.{Findings}
 use Rattle.cedar_host.specs.declared.reports.PolicyReport.{PolicyReport}
+use Rattle.cedar_host.specs.ReportOrder.{IsInOrder}
 
--- the errors that are found, with environments
+-- the errors of a map from errors to their environments
 abbrev pub listed : BTreeMap ValidationError Environments → List Finding
 listed errors = findings (keys errors)
 
--- the findings of a survey, of the passes over names, which find the same in Strict and in Permissive, and by levels, which
--- have these errors
+-- the findings of a survey, of the passes over names, and of these level errors. The passes find equal errors in Strict and
+-- in Permissive
 pub record AreFoundBy (s : Schema) (t : PlainTemplate) (survey : Survey) (levels : List Finding) (f : Findings) : Type 0 where
-  -- the policy is accepted where no level and no name has an error, and each check passes
+  -- the policy is accepted if no level and no name has an error, and each check passes
   pub accepted : f.is_accepted ≡ (is_silent levels && (is_silent (name_findings Strict s t) && passes_of survey))
   pub impossible : f.is_impossible ≡ impossible_of survey
   pub applicable : f.applicable_environments ≡ applicable_of survey
-  -- each error of the levels, of the checks and of the names is listed, and no other
+  -- the list has each error of the levels, of the checks and of the names, and no other
   pub errors : (e : Finding)
       → IsOneOf e (listed f.errors) ↔ IsOneOf e (levels ++ (errors_of survey ++ name_findings Strict s t))
   pub warnings : map warning_of f.warnings.items
@@ -38,21 +39,23 @@ pub record AreFoundBy (s : Schema) (t : PlainTemplate) (survey : Survey) (levels
 abbrev pub AreFindingsOn : Basis → PlainTemplate → Findings → Type 0
 AreFindingsOn b t f = (survey : Survey) × IsSurveyOf b t survey × AreFoundBy b.schema t survey [] f
 
--- and for slices of n steps
+-- the findings in a policy for slices of n steps
 abbrev pub AreFindingsWithin : ℕ → Basis → PlainTemplate → Findings → Type 0
 AreFindingsWithin n b t f =
     (survey : Survey) × IsSurveyOf b t survey × AreFoundBy b.schema t survey (level_errors_of survey n) f
 
--- ---- in a report
+-- ---- findings in a report
 
--- where the policy is refused, there is an error
+-- if the policy is refused, there is an error
 abbrev pub ListsAnError : PolicyReport → Type 0
 ListsAnError r = r.is_accepted ≡ false → r.errors.items ≡ [] → ⊥
 
--- a report has the findings in its policy, and if it refuses the policy it lists an error
+-- a report has the findings in its policy, and if it refuses the policy it lists an error. What it lists stands in the order of
+-- places
 pub record IsReportOf (AreFindings : PlainTemplate → Findings → Type 0) (r : PolicyReport) : Type 0 where
   pub outcome : Findings
   pub found : AreFindings (template_of r.policy.now.template) outcome
   pub accepted : r.is_accepted ≡ outcome.is_accepted
   pub impossible : r.is_impossible ≡ outcome.is_impossible
   pub refused : ListsAnError r
+  pub ordered : IsInOrder r

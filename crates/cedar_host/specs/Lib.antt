@@ -8,7 +8,9 @@ pub mod LoadedOutcomes
 pub mod Loaders
 pub mod Loading
 pub mod Repeats
+pub mod ReportOrder
 pub mod ResponseExamples
+pub mod ResponseLaws
 pub mod Responses
 pub mod Rounds
 pub mod Safety

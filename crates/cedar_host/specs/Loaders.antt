@@ -1,4 +1,4 @@
--- The entities that a host loaded in rounds: of which stores they have the slice.
+-- Entities that a host loaded in rounds, and the stores whose slice they have.
 use Rattle.std.specs.Prelude.{ℕ, List, []}
 use Rattle.cedar_types.specs.Names.{Uid}
 use Rattle.cedar_types.specs.Schemas.Declarations.{uids_of}
@@ -13,7 +13,8 @@ use Rattle.cedar_host.specs.declared.loaders.Loader.{Loader}
 use Rattle.cedar_host.specs.Loading.{AreAmong, IsLoaded}
 use Rattle.cedar_host.specs.Rounds.{Round, AreAfter, HoldNoMore, ids_in, left_in, wanted_in}
 
--- of each store that has of the ids that were asked for what was loaded: that has the slice of n steps
+-- the loaded entities have the slice of n steps of each store that agrees with them on the ids that
+-- were asked for
 abbrev pub HoldsSliceOf : Request → ℕ → Loaded → Type 0
 HoldsSliceOf request n loaded =
     (store : Store) → IsLoaded store (uids_of loaded.ids) (store_of loaded.entities)
@@ -29,15 +30,15 @@ wanted_of l = wanted_in l.rounds
 abbrev pub left_of : Loader → ℕ
 left_of l = left_in l.rounds
 
--- a loader that began with these ids and has so many steps, after these rounds
+-- a loader that began with these ids and has this many steps, after these rounds
 pub record IsLoaderAfter (start : List Uid) (steps : ℕ) (done : List Round) (l : Loader) : Type 0 where
   pub after : AreAfter start steps done l.rounds
-  -- what is wanted is found
+  -- wanted ids are found
   pub found : AreAmong (wanted_of l) (ids_in l.rounds)
-  -- what was asked before is found too, and is not wanted again
+  -- ids that were asked before are found, and are not wanted again
   pub asked : (d : Round) → IsOneOf d done → (u : Uid) → IsOneOf u d.asked
       → IsOneOf u (ids_in l.rounds) × (IsOneOf u (wanted_of l) → ⊥)
-  -- no entity that was asked holds more than was followed
+  -- no entity that was asked holds more ids than were followed
   pub held : HoldNoMore (store_of l.entities) done
 
 -- a loader of a request, after some rounds

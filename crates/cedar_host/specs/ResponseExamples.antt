@@ -9,7 +9,7 @@ use Rattle.cedar_typing.specs.Examples.Expressions.{true_lit}
 use Rattle.cedar_typing.specs.Examples.PolicySoundness.{policy_when}
 use Rattle.cedar_host.specs.Responses.{LinkedPolicy, Answer, PolicyError, Decision, allow, deny, Response, response_to}
 
--- a permit and a forbid with their outcomes: their conditions do not matter here
+-- a permit and a forbid with their outcomes. Their conditions do not matter here
 abbrev pub named : Effect → Text → LinkedPolicy
 named e n = record { name = n; effect = e; template = policy_when true_lit; slots = λ x. None }
 
@@ -33,14 +33,14 @@ abbrev pub error_of : Text → Failure → PolicyError
 error_of n f = record { policy = n; failure = f }
 
 pub record ResponseExamples : Type 0 where
-  -- without a policy, and where no permit is satisfied, a request is denied
+  -- a request is denied without a policy, and if no permit is satisfied
   pub none : response_to [] ≡ answered deny [] []
   pub not_permitted : response_to (permits (Says false) ∷ []) ≡ answered deny [] []
-  -- a satisfied permit allows it
+  -- a satisfied permit allows the request
   pub permitted : response_to (permits (Says true) ∷ []) ≡ answered allow (codes "p" ∷ []) []
   pub not_forbidden : response_to (permits (Says true) ∷ forbids (Says false) ∷ [])
       ≡ answered allow (codes "p" ∷ []) []
-  -- a satisfied forbid denies it, wherever it stands, and determines that alone
+  -- a satisfied forbid denies the request, wherever it stands, and it alone determines the decision
   pub forbidden : response_to (permits (Says true) ∷ forbids (Says true) ∷ [])
       ≡ answered deny (codes "f" ∷ []) []
   pub forbidden_first : response_to (forbids (Says true) ∷ permits (Says true) ∷ [])
@@ -50,7 +50,7 @@ pub record ResponseExamples : Type 0 where
       ≡ answered deny [] (error_of (codes "p") MissingEntity ∷ [])
   pub failing_forbid : response_to (permits (Says true) ∷ forbids (Stops Overflow) ∷ [])
       ≡ answered allow (codes "p" ∷ []) (error_of (codes "f") Overflow ∷ [])
-  -- each satisfied permit determines what is allowed, and each satisfied forbid what is denied, in their order
+  -- each satisfied permit determines a decision to allow, and each satisfied forbid one to deny, in their order
   pub two_permits : response_to (permits (Says true) ∷ also_permits (Says true) ∷ [])
       ≡ answered allow (codes "p" ∷ codes "q" ∷ []) []
   pub second_permit : response_to (permits (Says false) ∷ also_permits (Says true) ∷ [])

@@ -19,7 +19,7 @@ use Rattle.cedar_host.specs.declared.slices.SliceReport.{SliceReport}
 use Rattle.cedar_host.specs.Safety.{IsNeverTrue}
 use Rattle.cedar_host.specs.Slices.{NeedsSliceAlone, IsRightForSlices}
 
--- ---- policies as an authoriser takes them
+-- ---- policies of an authoriser
 
 abbrev pub same_effect : Effect → Effect → Bool
 same_effect Permit Permit = true
@@ -27,19 +27,21 @@ same_effect Permit Forbid = false
 same_effect Forbid Permit = false
 same_effect Forbid Forbid = true
 
--- a template with the entities to which its slots are bound, under a name of its own: one without slots is linked too
+-- a template with the entities to which its slots are bound, under a name of its own. A policy without slots is linked
+-- too
 pub record LinkedPolicy : Type 0 where
   pub name : Text
   pub effect : Effect
   pub template : PlainTemplate
   pub slots : Slots
 
--- ---- the outcome of each
+-- ---- the outcome of each policy
 
 abbrev pub linked_world : World → LinkedPolicy → World
 linked_world world p = record world { slots = p.slots }
 
--- its condition says a boolean, or it stops: with a failure, or since it gives another value
+-- the outcome of a policy: its condition gives a boolean, or it stops, with a failure or because the condition gives
+-- another value
 pub record Answer : Type 0 where
   pub policy : LinkedPolicy
   pub test : Test
@@ -80,12 +82,12 @@ erring (a ∷ rest) = with_error a.policy.name a.test (erring rest)
 pub data Decision : Type 0 where
   allow deny : Decision
 
--- allowed where some permit is satisfied and no forbid is: by the satisfied permits and the satisfied forbids
+-- a request is allowed if some permit is satisfied and no forbid is: by the satisfied permits and the satisfied forbids
 abbrev pub decision : List Text → List Text → Decision
 decision (p ∷ ps) [] = allow
 decision ps fs = deny
 
--- the determining policies: the satisfied forbids, if there are any, and else the satisfied permits, if there are any
+-- the determining policies: the satisfied forbids, if there are any; else the satisfied permits, if there are any
 abbrev pub determining : List Text → List Text → List Text
 determining ps [] = ps
 determining ps (f ∷ fs) = f ∷ fs
@@ -105,17 +107,17 @@ response_to rest = record {
 abbrev pub response : World → List LinkedPolicy → Response
 response world ps = response_to (answers world ps)
 
--- ---- policies that need the slice alone
+-- ---- policies that need only the slice
 
--- of no policy more is needed than the slice of n steps
+-- each policy needs only the slice of n steps
 abbrev pub NeedSliceAlone : Basis → ℕ → List LinkedPolicy → Type 0
 NeedSliceAlone b n ps = (p : LinkedPolicy) → IsOneOf p ps → NeedsSliceAlone b p.template n
 
--- each has no unknowns, slots in its scope alone, and all of them bound
+-- each policy has no unknowns, has slots only in its scope, and all of them are bound
 abbrev pub AreWellFormed : List LinkedPolicy → Type 0
 AreWellFormed ps = (p : LinkedPolicy) → IsOneOf p ps → IsWellFormed p.template p.slots
 
--- the same response in each part of the store that has the slice: decision, determining policies and errors
+-- the response is equal in each part of the store that has the slice: decision, determining policies and errors
 abbrev pub ResponsesNeedSliceAlone : Type 0
 ResponsesNeedSliceAlone =
     (b : Basis) (n : ℕ) (ps : List LinkedPolicy) → NeedSliceAlone b n ps → has_external b.schema ≡ false
@@ -123,7 +125,7 @@ ResponsesNeedSliceAlone =
     → (part : Store) → HoldsSlice world.request world.store n part
     → response (with_store world part) ps ≡ response world ps
 
--- and an error is a missing entity, an overflow or a failed extension call
+-- each error is a missing entity, an overflow or a failed extension call
 abbrev pub ErrorsAreAllowed : Type 0
 ErrorsAreAllowed =
     (b : Basis) (n : ℕ) (ps : List LinkedPolicy) → NeedSliceAlone b n ps → has_external b.schema ≡ false
@@ -132,13 +134,13 @@ ErrorsAreAllowed =
 
 -- ---- policies that were accepted for slices
 
--- its template is that of a report that accepts it
+-- the policy's template is the one of a report that accepts it
 abbrev pub IsAcceptedIn : List SliceReport → LinkedPolicy → Type 0
 IsAcceptedIn reports p =
     (r : SliceReport) × IsOneOf r reports
     × (r.report.is_accepted ≡ true) × (template_of r.report.policy.now.template ≡ p.template)
 
--- where the reports say no more than is so, accepted templates need the slice alone, however they are linked
+-- if the reports claim no more than holds, accepted templates need only the slice, however they are linked
 abbrev pub AcceptedNeedSliceAlone : Type 0
 AcceptedNeedSliceAlone =
     (b : Basis) (n : ℕ) (reports : List SliceReport)
@@ -146,8 +148,8 @@ AcceptedNeedSliceAlone =
     → (ps : List LinkedPolicy) → ((p : LinkedPolicy) → IsOneOf p ps → IsAcceptedIn reports p)
     → NeedSliceAlone b n ps
 
--- so they have the same response in each part of the store that has the slice of so many steps, whatever
--- their names, effects and slots: of policies whose slots are bound
+-- accepted policies with bound slots have equal responses in each part of the store that has the slice of this many
+-- steps, whatever their names, effects and slots are
 abbrev pub HaveSameResponses : Basis → ℕ → List SliceReport → Type 0
 HaveSameResponses b n reports =
     (ps : List LinkedPolicy) → ((p : LinkedPolicy) → IsOneOf p ps → IsAcceptedIn reports p)
@@ -158,7 +160,7 @@ HaveSameResponses b n reports =
 
 -- ---- policies that are impossible
 
--- a policy that is never true is satisfied in no world that conforms
+-- a policy that is never true is satisfied in no conforming world
 abbrev pub ImpossibleIsNeverSatisfied : Type 0
 ImpossibleIsNeverSatisfied =
     (b : Basis) (p : LinkedPolicy) → IsNeverTrue b p.template → has_external b.schema ≡ false
@@ -167,7 +169,7 @@ ImpossibleIsNeverSatisfied =
 
 -- ---- policies whose conditions were typed
 
--- a policy with a typed copy of its condition, which an authoriser evaluates in its place
+-- a policy with a typed copy of its condition, which an authoriser evaluates in place of the condition
 pub record TypedPolicy : Type 0 where
   pub policy : LinkedPolicy
   pub condition : TypedTree
@@ -186,7 +188,7 @@ abbrev pub policies_of : List TypedPolicy → List LinkedPolicy
 policies_of [] = []
 policies_of (p ∷ ps) = p.policy ∷ policies_of ps
 
--- where each copy evaluates in the part to what the condition evaluates to in the whole store, the response is the same
+-- if each copy evaluates in the part as the condition does in the whole store, the responses are equal
 abbrev pub TypedResponsesAreTheSame : Type 0
 TypedResponsesAreTheSame =
     (world : World) (part : Store) (ps : List TypedPolicy)

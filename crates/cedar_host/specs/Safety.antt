@@ -1,4 +1,4 @@
--- The promise to a host in its mode, if a policy is accepted and if it is impossible.
+-- The promise to a host in its mode, for policies that are accepted and for those that are impossible.
 use Rattle.std.specs.Prelude.{◌≡◌, Bool, true, false}
 use Rattle.cedar_types.specs.declared.base.types.ValidationMode.{ValidationMode}
 use Rattle.cedar_types.specs.Extensions.{functions_of, overloaded_types_of}
@@ -28,7 +28,7 @@ abbrev pub validation_mode : SoundMode → ValidationMode
 validation_mode SoundMode.Strict = ValidationMode.Strict
 validation_mode SoundMode.Permissive = ValidationMode.Permissive
 
--- the schema and the extension functions of its validator, and the mode that it asked for
+-- the schema and the extension functions of the host's validator, and the mode that it asked for
 abbrev pub sound_basis : {C : Type 0} → SoundMode → (C → Refusals) → Validator C → Basis
 sound_basis mode meaning v = record {
   schema = schema_of (schema_in v);
@@ -41,9 +41,9 @@ sound_basis mode meaning v = record {
 
 -- ---- in one environment
 
--- in each world of an environment of the schema, which has no external declarations, and with the
--- slots of the condition bound, evaluation gives a boolean, or fails only for a missing entity, an
--- overflow or an extension function
+-- in each world of an environment of the schema, which has no external declarations, and with the slots
+-- of the condition bound, evaluation gives a boolean, or fails only for a missing entity, an overflow or
+-- an extension function
 abbrev pub IsSafeToEvaluate : Basis → PlainTemplate → Env → Type 0
 IsSafeToEvaluate b t env =
     has_external b.schema ≡ false → IsEnvironmentOf b.schema env
@@ -51,45 +51,45 @@ IsSafeToEvaluate b t env =
     → SlotsBound world.slots (condition_of t)
     → IsBooleanOrAllowed (eval world (condition_of t))
 
--- the check of the policy is a success there
+-- the check of the policy is a success
 abbrev pub is_success : Verdict → Bool
 is_success (succeeds x) = true
 is_success (irrelevant es x) = false
 is_success (fails es) = false
 
--- it is answered whether it is
+-- the answer tells whether the check of the policy in this environment is a success
 abbrev pub IsSuccessWhere : Basis → PlainTemplate → Env → Bool → Type 0
 IsSuccessWhere b t env answer =
     (v : Verdict) × PolicyChecks (setting_on b t.id env) (condition_of t) v × (answer ≡ is_success v)
 
--- ---- in all of them
+-- ---- in all environments
 
--- in the mode, the check of the policy passes in each of its environments: it is a success there,
--- or irrelevant without errors
+-- in the mode, the check of the policy passes in each of its environments: it is a success there, or
+-- irrelevant without errors
 abbrev pub PassesEverywhere : Basis → PlainTemplate → Type 0
 PassesEverywhere b t =
     (env : Env) → IsOneOf env (checked_envs b.schema b.mode t)
     → (v : Verdict) × PolicyChecks (setting_on b t.id env) (condition_of t) v × (passes v ≡ true)
 
 -- in each world that conforms, evaluation gives a boolean, or fails only for a missing entity, an
--- overflow or an extension function: of a policy without unknowns, whose slots stand in its scope
--- alone and are bound, by a schema without external declarations
+-- overflow or an extension function, if the policy has no unknowns, its slots stand only in its scope
+-- and are bound, and the schema has no external declarations
 abbrev pub DoesNotGoWrong : Basis → PlainTemplate → Type 0
 DoesNotGoWrong b t =
     has_external b.schema ≡ false
     → (world : World) → IsWellFormed t world.slots → IsConforming b world
     → IsBooleanOrAllowed (eval world (condition_of t))
 
--- in each world that conforms, evaluation does not give true: of a policy whose slots stand in its
--- scope alone, whether or not they are bound, by a schema without external declarations
+-- in each world that conforms, evaluation does not give true, if the policy's slots stand only in its
+-- scope, bound or not, and the schema has no external declarations
 abbrev pub IsNeverTrue : Basis → PlainTemplate → Type 0
 IsNeverTrue b t =
     has_external b.schema ≡ false → SlotsInScopeAlone t
     → (world : World) → IsConforming b world
     → IsTrueOutcome (eval world (condition_of t)) → ⊥
 
--- a report of a policy says no more than is so: if it is accepted it passes its check and does not
--- go wrong, and if it is impossible it is never true
+-- a report of a policy claims no more than holds: if the policy is accepted, it passes its check and
+-- does not go wrong, and if it is impossible, it is never true
 pub record IsRight (b : Basis) (r : PolicyReport) : Type 0 where
   pub checked : r.is_accepted ≡ true → PassesEverywhere b (template_of r.policy.now.template)
   pub safe : r.is_accepted ≡ true → DoesNotGoWrong b (template_of r.policy.now.template)

@@ -1,4 +1,4 @@
-//! Policies that validation accepts, as a value that validation alone makes.
+//! Policies that validation accepts, in a value that only validation makes.
 ghost use Rattle.std.specs.Prelude.{◌≡◌, [], All, IfOk, IfErr, IsOk, MatchResult, OnErr, ◌↔◌};
 ghost use Rattle.cedar_typing.specs.Soundness.Policies.{IsWellFormed};
 ghost use Rattle.cedar_host.specs.Accepted.{AcceptsExactly, IsAdmissible, IsFaultOfForm, template_in, slots_in};
@@ -15,7 +15,7 @@ use std::alloc::{AllocError, Global};
 use std::marker::Model;
 
 /// Policies that one validator accepts, in a mode and for slices of some steps, each with the entities to which its slots are
-/// bound. Only `add` puts one in, if validation accepts it, so that nobody has to believe a report.
+/// bound. Only `add` puts one in, if validation accepts it, so that you need not trust a report.
 #[derive(Drop)]
 pub struct AcceptedPolicies<'a, C: ArgumentCheck> {
     validator: &'a Validator<'a, C>,
@@ -43,7 +43,7 @@ impl<'a, C: ArgumentCheck> Model for AcceptedPolicies<'a, C> {
     ghost use Rattle.cedar_host.specs.contracts.admission.LinkedTemplate as linked_template;
     ghost use mir.Syntax.{named};
 
-    // The view holds values of these types. A type with a lifetime has its row at one that is made up here.
+    // The view holds values of these types. A type with a lifetime needs its row at some lifetime, so one is made up here.
     ghost coded = { Prim.hlevel (
       codes,
       set_code,
@@ -76,10 +76,10 @@ impl<'a, C: ArgumentCheck> AcceptedPolicies<'a, C> {
         }
     }
 
-    /// Validates a policy for the slices, checks it with its links, and puts it behind the others where both pass (clause
-    /// `added`): where validation accepts it, it has no unknowns, and its slots stand in its scope alone and are bound. Else
-    /// the answer is its first fault (clause `exact`), and nothing changes. A template that is linked several times is
-    /// validated each time. Where memory is refused, nothing changes (clause `failed`).
+    /// Validates a policy for the slices, checks it with its links, and puts it behind the others if both pass (clause
+    /// `added`): validation accepts it, it has no unknowns, and its slots stand only in its scope and are bound. Else the
+    /// answer is its first fault (clause `exact`), and nothing changes. A template that is linked several times is validated
+    /// each time. If memory is refused, nothing changes (clause `failed`).
     pub fn add(
         &mut self,
         alloc: Global,
@@ -100,8 +100,8 @@ impl<'a, C: ArgumentCheck> AcceptedPolicies<'a, C> {
         }
     }
 
-    /// The policies, in the order in which they were added. Each passes its checks, needs no more of a store than the slice,
-    /// and is well-formed with its links (clause `admissible`).
+    /// The policies, in the order in which they were added. Each passes its checks, needs only the slice of a store, and is
+    /// well-formed with its links (clause `admissible`).
     pub fn policies(&self) -> &[LinkedTemplate<'a>]
         ensures same { result.now ≡ policies_in self.now }
         ensures admissible { All
@@ -110,7 +110,7 @@ impl<'a, C: ArgumentCheck> AcceptedPolicies<'a, C> {
         &self.policies
     }
 
-    /// The schema by which they were validated.
+    /// The schema by which the policies were validated.
     pub fn schema(&self) -> &ValidatorSchema
         ensures { result.now ≡ schema_by self.now }
     {

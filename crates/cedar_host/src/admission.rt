@@ -1,6 +1,6 @@
-//! Policies, a request and entities, checked before anything is evaluated. Policies that pass keep the promise of validation.
-//! You must see to two things as a host: your extension functions keep the validator's table, and your evaluator is the one
-//! that docs/PROFILE.md describes, over the very request, entities and links that were checked.
+//! Admission of policies, a request and entities before anything is evaluated. Policies that pass keep the promise of
+//! validation. You must see to two things as a host: your extension functions keep the validator's table, and your evaluator is
+//! the one that docs/PROFILE.md describes, over the very request, entities and links that were checked.
 ghost use Rattle.std.specs.Prelude.{◌↔◌, IfOk, IfErr, IsOk};
 ghost use Rattle.cedar_types.specs.Templates.{template_of};
 ghost use Rattle.cedar_typechecker.specs.ValidatorViews.{schema_in};
@@ -29,7 +29,7 @@ pub struct LinkedTemplate<'a> {
     pub values: &'a SlotEnv,
 }
 
-/// The reason for which nothing is promised: the first that was found.
+/// The reason for which nothing is promised: the first one found.
 #[derive(Debug, PartialEq, Eq, Drop)]
 pub enum AdmissionFault {
     /// Validation does not accept this policy.
@@ -40,14 +40,14 @@ pub enum AdmissionFault {
     Premise(PremiseFault),
 }
 
-/// Whether accepted policies may be evaluated for this request over these entities: nothing of their schema is declared
-/// elsewhere, and the data conforms. It answers Ok exactly where that is so (clause `exact`). Else the fault of the schema, or
-/// of the data (clause `first`). A host that lets in many requests over the same entities checks these once
-/// (`checked::CheckedStore`).
+/// Whether accepted policies may be evaluated for this request over these entities: no part of their schema is declared
+/// elsewhere, and the data conforms. The answer is Ok exactly if both hold (clause `exact`). Else it is the fault of the
+/// schema, or of the data (clause `first`). If you let in many requests over the same entities, check these once with
+/// `checked::CheckedStore`.
 ///
-/// Where it answers Ok, each policy evaluates to a boolean, or fails only for a missing entity, an overflow or an extension
-/// function (clause `safe`), and comes to the same over each part of the entities that has the slice (clause `sliced`). No
-/// premise is left but that the extension functions keep the validator's table. Where memory is refused, the answer is an
+/// If the answer is Ok, each policy evaluates to a boolean, or fails only for a missing entity, an overflow or an extension
+/// function (clause `safe`), and gives the same result over each part of the entities that has the slice (clause `sliced`). The
+/// only remaining premise is that the extension functions keep the validator's table. If memory is refused, the answer is an
 /// `AllocError`.
 pub fn admit<C: ArgumentCheck>(
     alloc: Global,
@@ -64,13 +64,13 @@ pub fn admit<C: ArgumentCheck>(
     ensures sliced { IfOk result (λ r. IsOk r
         → AllEvaluateInSlices C.refusal policies.now request.now entities.now) }
 {
-    // its clause tells the proof that each policy is admissible
+    // the clause of this call tells the proof that each policy is admissible
     let _accepted = policies.policies();
     let checked = check_closed_data(alloc, policies.schema(), request, entities)?;
     Ok(checked)
 }
 
-/// Checks that nothing of the schema is declared elsewhere, and that the data conforms.
+/// Checks that no part of the schema is declared elsewhere, and that the data conforms.
 fn check_closed_data(
     alloc: Global,
     schema: &ValidatorSchema,
@@ -90,12 +90,12 @@ fn check_closed_data(
     Ok(checked)
 }
 
-/// Validates a policy for slices of `steps` steps, and checks it with its links, the request and the entities. It answers Ok
-/// exactly where validation accepts the policy and the premises are met, and else the first fault: that validation refuses
-/// it, or the first premise that is not met (clause `exact`). Where it answers Ok, the policy evaluates to a boolean, or fails
-/// only for a missing entity, an overflow or an extension function, and comes to the same over each part of the entities that
-/// has the slice (clause `sliced`). No premise is left but that the extension functions keep the validator's table. Where
-/// memory is refused, the answer is an `AllocError`.
+/// Validates a policy for slices of `steps` steps, and checks it with its links, the request and the entities. The answer is Ok
+/// exactly if validation accepts the policy and the premises are met; else it is the first fault: validation refuses the
+/// policy, or the first premise that is not met (clause `exact`). If the answer is Ok, the policy evaluates to a boolean, or
+/// fails only for a missing entity, an overflow or an extension function, and gives the same result over each part of the
+/// entities that has the slice (clause `sliced`). The only remaining premise is that the extension functions keep the
+/// validator's table. If memory is refused, the answer is an `AllocError`.
 pub fn validate_and_admit<C: ArgumentCheck>(
     alloc: Global,
     validator: &Validator<'_, C>,

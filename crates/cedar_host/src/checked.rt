@@ -1,4 +1,4 @@
-//! A store that was checked once, and requests that are let in over it.
+//! Stores that were checked once, and requests that are let in over them.
 ghost use Rattle.std.specs.Prelude.{◌≡◌, ◌↔◌, true, IfOk, IfErr, IsOk};
 ghost use Rattle.cedar_types.specs.Schemas.Contents.{schema_of};
 ghost use Rattle.cedar_conformance.specs.Premises.{DataConforms};
@@ -18,7 +18,7 @@ use cedar_types::base::ArgumentCheck;
 use std::alloc::{AllocError, Global};
 use std::marker::Model;
 
-/// Accepted policies, with entities that conform to their schema, of which nothing is declared elsewhere. Only `check` makes
+/// Accepted policies, with entities that conform to their schema, no part of which is declared elsewhere. Only `check` makes
 /// it, so that a host whose entities stay checks them once for all requests.
 #[derive(Drop)]
 pub struct CheckedStore<'a, 'p, 'e, C: ArgumentCheck> {
@@ -47,9 +47,9 @@ impl<'a, 'p, 'e, C: ArgumentCheck> Model for CheckedStore<'a, 'p, 'e, C> {
 }
 
 impl<'a, 'p, 'e, C: ArgumentCheck> CheckedStore<'a, 'p, 'e, C> {
-    /// Checks the entities by the schema of the policies. It answers Ok exactly where nothing of the schema is declared
-    /// elsewhere and the entities conform (clause `exact`). Else the fault of the schema, or those of the entities (clause
-    /// `first`). Where memory is refused, the answer is an `AllocError`.
+    /// Checks the entities by the schema of the policies. The answer is Ok exactly if no part of the schema is declared
+    /// elsewhere and the entities conform (clause `exact`). Else it is the fault of the schema, or those of the entities
+    /// (clause `first`). If memory is refused, the answer is an `AllocError`.
     pub fn check(
         alloc: Global,
         policies: &'p AcceptedPolicies<'a, C>,
@@ -67,12 +67,12 @@ impl<'a, 'p, 'e, C: ArgumentCheck> CheckedStore<'a, 'p, 'e, C> {
         }
     }
 
-    /// Whether the policies may be evaluated for this request over the entities, of which no entity is looked at again. It
-    /// answers Ok exactly where the request conforms, so that the data does (clause `exact`). Then each policy evaluates to a
-    /// boolean, or fails only for a missing entity, an overflow or an extension function (clause `safe`), and comes to the same
-    /// over each part of the entities that has the slice (clause `sliced`). No premise is left but that the extension
-    /// functions keep the validator's table. Else the first fault that the request has (clause `first`). Where memory is
-    /// refused, the answer is an `AllocError`.
+    /// Whether the policies may be evaluated for this request over the entities, none of which is looked at again. The answer
+    /// is Ok exactly if the request conforms, because then all data does (clause `exact`). Then each policy evaluates to a
+    /// boolean, or fails only for a missing entity, an overflow or an extension function (clause `safe`), and gives the same
+    /// result over each part of the entities that has the slice (clause `sliced`). The only remaining premise is that the
+    /// extension functions keep the validator's table. Else the answer is the first fault of the request (clause `first`). If
+    /// memory is refused, the answer is an `AllocError`.
     pub fn admit(
         &self,
         alloc: Global,
@@ -87,14 +87,14 @@ impl<'a, 'p, 'e, C: ArgumentCheck> CheckedStore<'a, 'p, 'e, C> {
         ensures sliced { IfOk result (λ r. IsOk r
             → AllEvaluateInSlices C.refusal self.now.0 request.now self.now.1) }
     {
-        // its clause tells the proof that each policy is admissible
+        // the clause of this call tells the proof that each policy is admissible
         let _accepted = self.policies.policies();
         let checked = check_request(alloc, self.policies.schema(), request)?;
         Ok(checked)
     }
 }
 
-/// That nothing of the schema is declared elsewhere, and that the entities conform to it.
+/// Checks that no part of the schema is declared elsewhere, and that the entities conform to it.
 fn check_closed_store<C: ArgumentCheck>(
     alloc: Global,
     policies: &AcceptedPolicies<'_, C>,

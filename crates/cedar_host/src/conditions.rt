@@ -1,5 +1,5 @@
-//! The typed conditions of a policy, for a host that goes on with them: a compiler of policies to queries, or an editor that
-//! shows which part of a policy is left in an environment.
+//! Typed conditions of a policy, for a host that goes on with them: for example a compiler of policies to queries, or an editor
+//! that shows which part of a policy is left in an environment.
 ghost use Rattle.std.specs.Prelude.{◌≡◌, IfOk, option_map};
 ghost use Rattle.cedar_types.specs.Templates.{template_of};
 ghost use Rattle.cedar_typing.specs.TypedExpr.{typed_tree};
@@ -11,24 +11,25 @@ use cedar_types::types::request_env::RequestEnv;
 use cedar_typing::typecheck::{PolicyCheck, Typechecker};
 use std::alloc::{AllocError, Global};
 
-/// The condition of a policy as it was typed in an environment: with the types that were found, and without parts that typing
-/// drops, since they are never evaluated there.
+/// The condition of a policy as it was typed in an environment: with its types, and without the parts that typing drops,
+/// because they are never evaluated there.
 #[derive(Drop)]
 pub struct TypedCondition<'a> {
     pub env: RequestEnv<'a>,
     pub condition: Expr<Option<CedarType>>,
 }
 
-/// The typed conditions of a policy, one for each of its environments, in any order; `None` where its check fails in some
-/// environment. An environment comes as often as the slots can be linked so. A policy that is irrelevant in an environment, and
-/// has errors there, has them too, though `typecheck_policy` does not pass it: a host asks that call first.
+/// The typed conditions of a policy, one for each of its environments, in any order; `None` if its check fails in some
+/// environment. If slots can be linked in several ways, an environment comes once for each. A policy that is irrelevant in an
+/// environment has its condition there even if it has errors there. `typecheck_policy` refuses such a policy, so you must call
+/// that first.
 ///
-/// In Strict and in Permissive, by a schema without external declarations, each evaluates as the policy's condition does in the
-/// worlds of its environment, and of each conforming request one is the request's own (clause `meaning`). So a host that has
-/// compiled all of them takes the one of the request's principal type, action and resource type, with each slot linked to its
-/// variable's own type.
+/// In Strict and in Permissive, by a schema without external declarations, each typed condition evaluates as the policy's
+/// condition does in the worlds of its environment, and each conforming request has one of them as its own (clause `meaning`).
+/// So a host that has compiled all of them takes the one with the request's principal type, action and resource type, and with
+/// each slot linked to its variable's own type.
 ///
-/// Where memory is refused, the answer is an `AllocError`.
+/// If memory is refused, the answer is an `AllocError`.
 pub fn typed_conditions<'a, C: ArgumentCheck>(
     alloc: Global,
     typechecker: &'a Typechecker<'a, C>,

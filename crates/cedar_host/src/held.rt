@@ -1,4 +1,4 @@
-//! The ids inside data, which a host that loads slices follows: those that an entity holds, and those of a request.
+//! Ids inside data, which a host that loads slices follows: those that an entity holds, and those of a request.
 ghost use Rattle.std.specs.Prelude.{◌≡◌, [], ◌∷◌, ◌++◌, Some, IfOk, OnOk, map};
 ghost use Rattle.cedar_types.specs.Names.{uid_of};
 ghost use Rattle.cedar_typechecker.specs.Slices.Reach.{ids_in, ids_in_members, ids_in_entries, ids_of, reach};
@@ -12,8 +12,7 @@ use cedar_conformance::values::{Record, Value};
 use cedar_types::base::EntityUID;
 use std::alloc::{AllocError, Global};
 
-/// The ids inside the attributes and the tags of an entity, at any depth. Where memory is refused, the answer is an
-/// `AllocError`.
+/// The ids inside the attributes and the tags of an entity, at any depth. If memory is refused, the answer is an `AllocError`.
 pub fn ids_in_entity(alloc: Global, entity: &Entity) -> Result<Vec<EntityUID>, AllocError>
     ensures { IfOk result (λ ids. map uid_of ids.items ≡ ids_of (Some (entity_of entity.now))) }
 {
@@ -23,7 +22,7 @@ pub fn ids_in_entity(alloc: Global, entity: &Entity) -> Result<Vec<EntityUID>, A
     Ok(ids)
 }
 
-/// The ids of a request, with which a slice begins: its principal, its action, its resource, and those inside its context. Where
+/// The ids of a request, with which a slice begins: its principal, its action, its resource, and those inside its context. If
 /// memory is refused, the answer is an `AllocError`.
 pub fn ids_in_request(alloc: Global, request: &Request) -> Result<Vec<EntityUID>, AllocError>
     ensures { IfOk result (λ ids. map uid_of ids.items ≡ reach (request_of request.now) [] 0) }

@@ -1,7 +1,6 @@
-//! The calls of a host of policies: it validates a set of policies, for whole stores or for slices, lets
-//! them in with a request and entities, finds the entities of a slice, and takes the typed conditions of
-//! a policy. Each call has its promise beside it. The crate `cedar_extensions` has the extension
-//! functions of Cedar.
+//! Calls for a host of policies: it validates a set of policies, for whole stores or for slices, lets them in with a request
+//! and entities, finds the entities of a slice, and takes the typed conditions of a policy. Each call has its promise beside
+//! it. The crate `cedar_extensions` has the extension functions of Cedar.
 #![tactic(auto)]
 
 pub mod accepted;

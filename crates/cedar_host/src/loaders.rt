@@ -1,4 +1,5 @@
-//! The part of a store that has a slice, for a host that asks a database or files of its own: in rounds, whose entries it hands in.
+//! Loading of the entities of a slice, for a host that asks a database or files of its own: it goes in rounds, and the host
+//! hands in the entries.
 ghost use Rattle.std.specs.Prelude.{◌≡◌, ◌-◌, false, IfOk, OnOk, map, [], ℕ};
 ghost use Rattle.std.specs.List.{flat_map};
 ghost use Rattle.cedar_types.specs.Names.{Uid, uid_eq, uid_of};
@@ -29,13 +30,13 @@ pub struct Loader {
 pub struct Loaded {
     /// The ids that were asked for.
     pub ids: BTreeSet<EntityUID>,
-    /// The entries that were handed in for them.
+    /// The entries that were handed in for these ids.
     pub entities: Entities,
 }
 
 impl Loader {
-    /// The first round of a slice of `steps` steps, of a request. In a slice of no steps nothing is wanted. Where
-    /// memory is refused, the answer is an `AllocError`.
+    /// The first round of a slice of `steps` steps, of a request. A slice of no steps wants no entries. If memory is refused,
+    /// the answer is an `AllocError`.
     pub fn begin(alloc: Global, request: &Request, steps: u32) -> Result<Loader, AllocError>
         ensures begun { IfOk result (λ loader. IsLoaderOf request.now steps loader) }
         ensures left { IfOk result (λ loader. left_of loader ≡ steps - 1) }
@@ -47,17 +48,16 @@ impl Loader {
         Ok(Loader { rounds, entities })
     }
 
-    /// The ids whose entries are to be handed in now: none twice, and none that an earlier round had. At the
-    /// end there is none.
+    /// The ids whose entries you must hand in now: none twice, and none that an earlier round had. At the end there are none.
     pub fn wanted(&self) -> &[EntityUID]
         ensures { map uid_of result.now ≡ wanted_of self.now }
     {
         self.rounds.wanted()
     }
 
-    /// The next round, with the entry of each id that was wanted, in their order: `None`, where the store has
-    /// no such entity, as for those that are left out at the end. There are at most as many rounds as steps.
-    /// Where memory is refused, the answer is an `AllocError`, and the loader is gone.
+    /// The next round, with the entry of each wanted id, in their order. You must hand in `None` for an id if the store has no
+    /// such entity; entries that are missing at the end count as `None`. There are at most as many rounds as steps. If memory
+    /// is refused, the answer is an `AllocError`, and the loader is gone.
     pub fn hand_in(self, alloc: Global, entries: Vec<Option<Entity>>) -> Result<Loader, AllocError>
         ensures goes_on { IfOk result (λ next. (request : Request) (steps : ℕ)
             → IsLoaderOf request steps self → IsLoaderOf request steps next) }
@@ -72,8 +72,8 @@ impl Loader {
         Ok(Loader { rounds, entities })
     }
 
-    /// The loaded entities. If nothing is wanted now, they have the slice of the request, for each store that agrees
-    /// with the entries that were handed in for the ids that were asked for (clause `slices`).
+    /// The loaded entities. If no id is wanted now, they have the slice of the request, for each store that agrees with the
+    /// entries that were handed in for the ids that were asked for (clause `slices`).
     pub fn finish(self) -> Loaded
         ensures slices { wanted_of self ≡ [] → (request : Request) (steps : ℕ)
             → IsLoaderOf request steps self → HoldsSliceOf request steps result }
@@ -121,7 +121,7 @@ fn add_entry(
     }
 }
 
-/// The ids inside the entities of these ids, together.
+/// The ids inside the entities of these ids, all together.
 fn held_by(
     alloc: Global,
     entities: &Entities,

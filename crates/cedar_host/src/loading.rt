@@ -1,4 +1,4 @@
-//! Which entities a slice has, and how a host finds them: entity by entity, in rounds.
+//! Ids of the entities of a slice, which a host finds entity by entity, in rounds.
 ghost use Rattle.std.specs.Prelude.{◌≡◌, ◌++◌, IfOk, OnOk, map, List};
 ghost use Rattle.std.specs.List.{flat_map};
 ghost use Rattle.cedar_types.specs.Schemas.Declarations.{uids_of};
@@ -14,30 +14,29 @@ use std::collections::BTreeSet;
 
 /// The entities of a host.
 pub trait Entities {
-    // the store that they are
+    // the store of these entities
     ghost store: { Self → Store };
 
-    // the ids that are answered for an id
+    // the ids that the host answers for an id
     ghost answered: { Self → Uid → List Uid };
 
-    /// The ids inside the attributes and the tags of this entity, at any depth and in any order; none,
-    /// where there is no such entity. An answer may have more ids, and the ids that these hold are then found too.
-    /// Where memory is refused, it is an `AllocError`.
+    /// The ids inside the attributes and the tags of this entity, at any depth and in any order; none, if there is no such
+    /// entity. An answer may have more ids, and the ids that these hold are then found too. If memory is refused, the answer is
+    /// an `AllocError`.
     fn held(&self, alloc: Global, id: &EntityUID) -> Result<Vec<EntityUID>, AllocError>
         ensures { IfOk result (λ held. map uid_of held.items ≡ answered self.now (uid_of id.now)) };
 
-    // no id is left out that the store has there
+    // the answer has each id that the store holds there
     ghost complete: { (s : Self) (u : Uid) →
         AreAmong (ids_of (entity_at (store s) u)) (answered s u) };
 }
 
-/// The ids of the entities that a slice of `steps` steps has, of each request whose own ids are among
-/// these: its principal, its action, its resource, and the ids inside its context.
+/// The ids of the entities in a slice of `steps` steps, for each request whose own ids are among `start`: its principal, its
+/// action, its resource, and the ids inside its context.
 ///
-/// They are found in rounds, of which there are fewer than `steps`, and fewer still where a round
-/// finds nothing new. No entity is asked twice for the ids that it holds, and those of the last step are not
-/// asked. Of several equal ids the first is answered, with its place. Where memory is refused, the
-/// answer is an `AllocError`.
+/// The ids are found in fewer than `steps` rounds, and in fewer still if a round finds no new id. No entity is asked twice for
+/// its ids, and the entities of the last step are not asked. If several ids are equal, the answer has the first, with its
+/// place. If memory is refused, the answer is an `AllocError`.
 pub fn ids_within<E: Entities>(
     alloc: Global,
     entities: &E,
@@ -63,8 +62,8 @@ pub fn ids_within<E: Entities>(
     Ok(ids)
 }
 
-/// Adds the ids that each of these holds, and answers those that were not there. The ids of one entity are added before the next
-/// is asked, so that repeats among them take no memory.
+/// Adds the ids that each of these holds, and answers the new ones. The ids of one entity are added before the next is asked,
+/// so that repeats among them take no memory.
 fn add_held<E: Entities>(
     alloc: Global,
     ids: &mut BTreeSet<EntityUID>,
@@ -94,7 +93,7 @@ pub(crate) fn append(all: &mut Vec<EntityUID>, more: Vec<EntityUID>) -> Result<(
     Ok(())
 }
 
-/// Adds these to the ids, and answers those that were not there.
+/// Adds these ids, and answers the new ones.
 pub(crate) fn add_new(
     alloc: Global,
     ids: &mut BTreeSet<EntityUID>,

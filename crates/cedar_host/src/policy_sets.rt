@@ -1,4 +1,4 @@
-//! A host that validates a set of policies.
+//! Validation of a set of policies.
 ghost use Rattle.std.specs.Prelude.{◌≡◌, ◌++◌, true, [], ◌∷◌, cond, map, option_map, All, IfOk, OnOk, IsPermutation};
 ghost use Rattle.cedar_types.specs.declared.base.types.ValidationMode.TheVariants.{Strict};
 ghost use Rattle.cedar_types.specs.Errors.{finding_of, warning_of};
@@ -14,6 +14,7 @@ ghost use Rattle.cedar_typechecker.specs.Passes.{errors_left};
 ghost use Rattle.cedar_typechecker.specs.Surveys.{passes_of, impossible_of, required_of};
 ghost use Rattle.cedar_typechecker.specs.ValidatorViews.{schema_in};
 ghost use Rattle.cedar_host.specs.Found.{AreFindingsOn, AreFoundBy, listed, IsReportOf};
+ghost use Rattle.cedar_host.specs.ResponseLaws.{IsUnneeded};
 ghost use Rattle.cedar_host.specs.Repeats.{AreRepeats, id_in};
 ghost use Rattle.cedar_host.specs.Safety.{sound_basis, PassesEverywhere, DoesNotGoWrong};
 ghost use Rattle.cedar_host.specs.Safety.{IsNeverTrue, IsRight};
@@ -30,10 +31,10 @@ use std::alloc::{AllocError, Global};
 use std::collections::{BTreeMap, BTreeSet};
 use std::rc::RcStr;
 
-/// A policy, and the text that its places are in: that of a whole file too, which its policies share.
+/// A policy with the text of its places, which may be that of a whole file with several policies.
 #[derive(Debug, Drop)]
 pub struct WrittenPolicy {
-    /// The effect of a satisfied policy. Validation does not use it, an authoriser does.
+    /// The effect of a satisfied policy. Validation does not use it, but an authoriser does.
     pub effect: Effect,
     pub template: Template,
     pub text: RcStr,
@@ -60,9 +61,10 @@ pub struct Findings {
 }
 
 /// Validates each policy of the set in this mode, and reports on each. Accepted policies do not go wrong,
-/// and impossible ones are never true (clause `right`). A policy is accepted exactly where its checks and the
-/// passes over its names find nothing, and a report that refuses one lists an error (clause `exact`).
-/// Where memory is refused, the answer is an `AllocError`.
+/// and impossible ones are never true (clause `right`). So an authoriser that leaves out an impossible one decides alike, by the
+/// same policies (clause `unneeded`). A policy is accepted exactly where its checks and the passes over its names find nothing. A
+/// report that refuses one lists an error, and each report lists its errors and its warnings in the order of their places (clause
+/// `exact`). Where memory is refused, the answer is an `AllocError`.
 pub fn validate_set<'a, C: ArgumentCheck>(
     alloc: Global,
     validator: &Validator<'_, C>,
@@ -74,6 +76,8 @@ pub fn validate_set<'a, C: ArgumentCheck>(
         All (IsRight (sound_basis mode C.refusal validator.now)) reports.items) }
     ensures exact { IfOk result (λ reports. All
         (IsReportOf (AreFindingsOn (sound_basis mode C.refusal validator.now))) reports.items) }
+    ensures unneeded { IfOk result (λ reports.
+        All (IsUnneeded (sound_basis mode C.refusal validator.now)) reports.items) }
 {
     let mut reports = Vec::with_capacity(alloc, policies.len())?;
     for policy in policies {
@@ -83,9 +87,9 @@ pub fn validate_set<'a, C: ArgumentCheck>(
     Ok(reports)
 }
 
-/// The ids that a policy of a set shares with an earlier one, in the order of the set. A host that shows findings, or links
-/// policies by their ids, must refuse such a set, because findings name policies by their ids. Where memory is refused, the
-/// answer is an `AllocError`.
+/// The ids that a policy of a set shares with an earlier one, in the order of the set. You must refuse such a set if you show
+/// findings, or link policies by their ids, because findings name policies by their ids. If memory is refused, the answer is an
+/// `AllocError`.
 pub fn repeated_ids(alloc: Global, policies: &[WrittenPolicy]) -> Result<Vec<PolicyID>, AllocError>
     ensures { IfOk result (λ repeated.
         AreRepeats (map id_in policies.now) (map (λ i. text_of i.text) repeated.items)) }
@@ -101,11 +105,9 @@ pub fn repeated_ids(alloc: Global, policies: &[WrittenPolicy]) -> Result<Vec<Pol
     Ok(repeated)
 }
 
-/// The findings in a policy: the types, actions and ids that the schema does not have, the errors that
-/// typing finds in all environments, in this mode, and whether no action fits the scope. The policy is
-/// accepted exactly where its checks pass and no name has an error, and each error is listed (clause
-/// `exact`).
-/// Where memory is refused, the answer is an `AllocError`.
+/// The findings in a policy: the types, actions and ids that the schema does not declare, the errors that typing finds in all
+/// environments, in this mode, and whether no action fits the scope. The policy is accepted exactly if its checks pass and no
+/// name has an error, and each error is listed (clause `exact`). If memory is refused, the answer is an `AllocError`.
 pub fn validate<C: ArgumentCheck>(
     alloc: Global,
     validator: &Validator<'_, C>,
@@ -192,7 +194,7 @@ fn impossible_policy(policy: &Template) -> Result<ValidationWarning, AllocError>
     Ok(ValidationWarning::impossible_policy(policy.loc, policy.id.clone()?))
 }
 
-/// Each type, action and id that a policy names and the schema does not have.
+/// Each type, action and id that a policy names and the schema does not declare.
 fn name_errors(
     alloc: Global,
     schema: &ValidatorSchema,

@@ -1,7 +1,9 @@
 //! A host's report on a policy, and the part of it that the host may keep when the policy has gone.
+ghost use Rattle.std.specs.BTreeMap.{values};
 ghost use Rattle.std.specs.Prelude.{◌≡◌, [], IfOk, OnOk};
 ghost use Rattle.cedar_types.specs.Names.{text_of};
 ghost use Rattle.cedar_host.specs.Found.{ListsAnError};
+ghost use Rattle.cedar_host.specs.ReportOrder.{AreInOrder, IsInOrder, places_of_errors, places_of_warnings};
 
 use crate::policy_sets::{Findings, WrittenPolicy};
 use cedar_typechecker::survey::Environments;
@@ -22,7 +24,7 @@ pub struct PolicyError {
     pub place: Option<Loc>,
     /// The message on one line, without the policy's id.
     pub message: String,
-    /// The place, the text that stands there, the policy's id and the message, on one line.
+    /// The place, the policy's text at it, the policy's id and the message, on one line.
     pub line: String,
     /// The error itself; `None` for a policy that is refused without one.
     pub error: Option<ValidationError>,
@@ -79,7 +81,7 @@ pub struct KeptReport {
 }
 
 impl PolicyReport<'_> {
-    /// The report that a host may keep when the policy has gone. Where memory is refused, the answer is an `AllocError`.
+    /// The report that a host may keep when the policy has gone. If memory is refused, the answer is an `AllocError`.
     pub fn keep(self) -> Result<KeptReport, AllocError>
         ensures policy { IfOk result (λ kept.
             text_of kept.policy.text ≡ text_of self.entry.policy.now.template.id.text) }
@@ -117,6 +119,7 @@ pub(crate) fn report<'a>(
     ensures accepted { IfOk result (λ r. r.is_accepted ≡ findings.is_accepted) }
     ensures impossible { IfOk result (λ r. r.is_impossible ≡ findings.is_impossible) }
     ensures refused { IfOk result (λ r. ListsAnError r) }
+    ensures ordered { IfOk result IsInOrder }
 {
     let is_accepted = findings.is_accepted;
     let is_impossible = findings.is_impossible;
@@ -134,13 +137,15 @@ pub(crate) fn report<'a>(
     })
 }
 
-/// Adds an error to a list without any, which says that no error tells the reason.
+/// Adds an error to a list without any: it tells that the reason is not known.
 fn explain(
     alloc: Global,
     policy: &PolicyID,
     errors: &mut Vec<PolicyError>,
 ) -> Result<(), AllocError>
-    ensures { OnOk result (errors.new.items ≡ [] → ⊥) }
+    ensures some { OnOk result (errors.new.items ≡ [] → ⊥) }
+    ensures ordered { OnOk result (AreInOrder (places_of_errors errors.old.items)
+        → AreInOrder (places_of_errors errors.new.items)) }
 {
     if errors.is_empty() {
         errors.push(unexplained_error(alloc, policy)?)?;
@@ -153,7 +158,9 @@ fn errors(
     alloc: Global,
     policy: &WrittenPolicy,
     found: BTreeMap<ValidationError, Environments>,
-) -> Result<Vec<PolicyError>, AllocError> {
+) -> Result<Vec<PolicyError>, AllocError>
+    ensures { IfOk result (λ shown. AreInOrder (places_of_errors shown.items)) }
+{
     let mut ordered = BTreeMap::new(alloc);
     for (error, environments) in found {
         let shown = render_error(alloc, policy, error, environments)?;
@@ -165,10 +172,9 @@ fn errors(
 }
 
 /// The warnings in the order of their places.
-fn warnings(
-    alloc: Global,
-    found: Vec<ValidationWarning>,
-) -> Result<Vec<PolicyWarning>, AllocError> {
+fn warnings(alloc: Global, found: Vec<ValidationWarning>) -> Result<Vec<PolicyWarning>, AllocError>
+    ensures { IfOk result (λ shown. AreInOrder (places_of_warnings shown.items)) }
+{
     let mut ordered = BTreeMap::new(alloc);
     for warning in found {
         let shown = render_warning(alloc, warning)?;
@@ -180,7 +186,9 @@ fn warnings(
 }
 
 /// The values of a map, in the order of its keys.
-fn in_order<T: Drop>(alloc: Global, ordered: BTreeMap<Order, T>) -> Result<Vec<T>, AllocError> {
+fn in_order<T: Drop>(alloc: Global, ordered: BTreeMap<Order, T>) -> Result<Vec<T>, AllocError>
+    ensures { IfOk result (λ all. all.items ≡ values ordered) }
+{
     let mut all = Vec::new(alloc);
     for (_order, one) in ordered {
         all.push(one)?;
@@ -188,7 +196,7 @@ fn in_order<T: Drop>(alloc: Global, ordered: BTreeMap<Order, T>) -> Result<Vec<T
     Ok(all)
 }
 
-/// An error as it is shown: its place, the text that stands there, and its message.
+/// An error as it is shown: its place, the policy's text at it, and its message.
 fn render_error(
     alloc: Global,
     policy: &WrittenPolicy,
@@ -225,7 +233,7 @@ fn one_line(alloc: Global, text: &str) -> Result<String, AllocError> {
     format!(in alloc; "{}", OneLine(text))
 }
 
-/// A text on one line, behind its place and the part of the policy that stands there.
+/// A text on one line, behind its place and the policy's text at that place.
 fn line(alloc: Global, text: &str, place: Option<Loc>, shown: &str) -> Result<String, AllocError> {
     let shown = OneLine(shown);
     let Some(Loc { start, end }) = place else {

@@ -1,4 +1,5 @@
-//! The ids of a slice for a host that asks a database of its own, by any call and with any error: it asks once a round.
+//! Rounds that find the ids of a slice, for a host that asks a database of its own, by any call and with any error: it asks
+//! once a round.
 ghost use Rattle.std.specs.Prelude.{◌≡◌, ◌-◌, ◌↔◌, IsTrue, IfOk, map, List, [], ℕ};
 ghost use Rattle.cedar_types.specs.Names.{Uid, uid_of};
 ghost use Rattle.cedar_types.specs.Schemas.Declarations.{uids_of};
@@ -11,11 +12,12 @@ use cedar_types::base::EntityUID;
 use std::alloc::{AllocError, Global};
 use std::collections::BTreeSet;
 
-/// Which ids a slice has, found in rounds. In each round a host loads the entries of the ids that are
-/// `wanted`, and hands in the ids inside them, until none is wanted.
+/// The ids of a slice, found in rounds. In each round you must load the entries of the ids that are `wanted`, and hand in the
+/// ids inside them, until none is wanted.
 ///
-/// There are at most as many rounds as steps. Of every store whose entries hold no id beyond those that
-/// were handed in for them, the loaded part has the slice (clause `slices` of `into_ids`).
+/// There are at most as many rounds as steps. For example, a slice of two steps wants the request's own ids in its first round,
+/// and the ids inside their entries in its second. The loaded part has the slice of every store whose entries hold no id beyond
+/// those that were handed in for them (clause `slices` of `into_ids`).
 #[derive(Debug, Drop)]
 pub struct Rounds {
     ids: BTreeSet<EntityUID>,
@@ -24,9 +26,9 @@ pub struct Rounds {
 }
 
 impl Rounds {
-    /// The first round of a slice of `steps` steps, of each request whose own ids are among these: its
-    /// principal, its action, its resource, and the ids inside its context. In a slice of no steps nothing
-    /// is wanted. Where memory is refused, the answer is an `AllocError`.
+    /// The first round of a slice of `steps` steps, of each request whose own ids are among `start`: its principal, its action,
+    /// its resource, and the ids inside its context. A slice of no steps wants no entries. If memory is refused, the answer is
+    /// an `AllocError`.
     pub fn begin(alloc: Global, start: &[EntityUID], steps: u32) -> Result<Rounds, AllocError>
         ensures after { IfOk result (λ rounds. AreAfter (map uid_of start.now) steps [] rounds) }
         ensures distinct { IfOk result (λ rounds. AreDistinct (wanted_in rounds)) }
@@ -51,25 +53,24 @@ impl Rounds {
         })
     }
 
-    /// The ids whose entries are to be loaded in this round: none twice, and none that an earlier round had.
-    /// At the end there is none.
+    /// The ids whose entries you must load in this round: none twice, and none that an earlier round had. At the end there are
+    /// none.
     pub fn wanted(&self) -> &[EntityUID]
         ensures { map uid_of result.now ≡ wanted_in self.now }
     {
         &self.wanted
     }
 
-    /// Whether no step is left behind this round: its entries are loaded, but the ids that they hold are not asked.
+    /// Whether no step is left behind this round: its entries are loaded, but the ids inside them are not followed.
     pub fn is_last(&self) -> bool
         ensures { IsTrue result ↔ (left_in self.now ≡ 0) }
     {
         self.left == 0
     }
 
-    /// The next round, if the entries of all wanted ids hold these ids, in their attributes and in their tags,
-    /// at any depth and in any order. You may hand in more ids than they hold, and these are then found too.
-    /// In the last round nothing is looked at. Where memory is refused, the answer is an `AllocError`, and
-    /// the rounds are gone.
+    /// The next round, if the entries of all wanted ids hold these ids, in their attributes and in their tags, at any depth and
+    /// in any order. You may hand in more ids than they hold, and these are then found too. The last round ignores the ids. If
+    /// memory is refused, the answer is an `AllocError`, and the rounds are gone.
     pub fn hand_in(self, alloc: Global, held: &[EntityUID]) -> Result<Rounds, AllocError>
         ensures after { IfOk result (λ next. (start : List Uid) (steps : ℕ) (done : List Round)
             → AreAfter start steps done self
@@ -100,7 +101,7 @@ impl Rounds {
         })
     }
 
-    /// All ids that were wanted. Where none is wanted now, a store with their entries has the slice.
+    /// All ids that were wanted. If none is wanted now, a store with their entries has the slice.
     pub fn into_ids(self) -> BTreeSet<EntityUID>
         ensures ids { uids_of result ≡ ids_in self }
         ensures slices { FindSlices self (uids_of result) }

@@ -1,4 +1,4 @@
-//! The modes of a host, and the promise of a check in each.
+//! Modes of a host, and the promise of a check in each.
 ghost use Rattle.std.specs.Prelude.{◌≡◌, true, IfOk};
 ghost use Rattle.cedar_types.specs.Environments.RequestEnvs.{env_of};
 ghost use Rattle.cedar_types.specs.Templates.{template_of};
@@ -11,8 +11,7 @@ use cedar_types::types::request_env::RequestEnv;
 use cedar_typing::typecheck::{PolicyCheck, Typechecker};
 use std::alloc::{AllocError, Global};
 
-/// A mode in which validation makes a promise about evaluation. Partial is left out, because nothing is
-/// promised in it.
+/// A mode in which validation makes a promise about evaluation. Partial is left out, because it promises nothing.
 #[derive(Clone, Copy, PartialEq, Eq, Debug)]
 pub enum SoundMode {
     /// Types that meet, for example in the branches of an `if`, must agree.
@@ -47,9 +46,8 @@ pub(crate) fn typechecker_in<'a, C: ArgumentCheck>(
     Typechecker::new(schema, extensions, ValidationMode::from(mode))
 }
 
-/// Whether the check of a policy in this environment of the schema is a success (clause `exact`). Then
-/// its evaluation on conforming data does not go wrong (clause `safe`).
-/// Where memory is refused, the answer is an `AllocError`.
+/// Whether the check of a policy in this environment of the schema is a success (clause `exact`). If it is, evaluation on
+/// conforming data does not go wrong (clause `safe`). If memory is refused, the answer is an `AllocError`.
 pub fn is_safe_in<C: ArgumentCheck>(
     alloc: Global,
     validator: &Validator<'_, C>,

@@ -1,10 +1,11 @@
-//! A host that validates policies for the slices that it loads.
+//! Validation of policies for the slices that a host loads.
 ghost use Rattle.std.specs.Prelude.{◌≡◌, true, map, option_map, All, IfOk, OnOk};
 ghost use Rattle.cedar_types.specs.Templates.{template_of};
 ghost use Rattle.cedar_typing.specs.PolicyCheck.Outcome.{Adds};
 ghost use Rattle.cedar_typechecker.specs.Levels.Required.{IsRequiredLevel};
 ghost use Rattle.cedar_typechecker.specs.Levels.Views.{findings};
 ghost use Rattle.cedar_host.specs.Found.{AreFindingsWithin, IsReportOf, listed};
+ghost use Rattle.cedar_host.specs.ResponseLaws.{IsUnneeded};
 ghost use Rattle.cedar_host.specs.Responses.{HaveSameResponses};
 ghost use Rattle.cedar_host.specs.Safety.{sound_basis, PassesEverywhere, DoesNotGoWrong};
 ghost use Rattle.cedar_host.specs.Safety.{IsNeverTrue};
@@ -25,7 +26,7 @@ use std::collections::{BTreeMap, BTreeSet};
 /// A host's report on a policy that it evaluates over slices.
 #[derive(Debug, Drop)]
 pub struct SliceReport<'a> {
-    /// The report as on any policy. The policy is accepted only if it needs no more than the slice.
+    /// The report, as on any policy. The policy is accepted only if it needs no more than the slice.
     pub report: PolicyReport<'a>,
     /// The required level: the least number of steps at which the policy has no level error; `None` if no number is
     /// enough.
@@ -36,9 +37,10 @@ pub struct SliceReport<'a> {
 /// Accepted policies do not go wrong and need the slice alone, and impossible ones are never true
 /// (clause `right`). So an authoriser that has the accepted ones, each under a name, with an effect and
 /// with its slots bound, answers a request over such a slice as over the whole store (clause
-/// `responses`). A policy is accepted exactly where its checks, the passes over its names and its levels find nothing,
-/// and a report that refuses one lists an error (clause `exact`). Where memory is refused, the answer
-/// is an `AllocError`.
+/// `responses`), and decides alike, by the same policies, if it leaves out an impossible one (clause
+/// `unneeded`). A policy is accepted exactly where its checks, the passes over its names and its levels find nothing. A report
+/// that refuses one lists an error, and each report lists its errors and its warnings in the order of their places (clause
+/// `exact`). Where memory is refused, the answer is an `AllocError`.
 pub fn validate_for_slices<'a, C: ArgumentCheck>(
     alloc: Global,
     validator: &Validator<'_, C>,
@@ -52,6 +54,8 @@ pub fn validate_for_slices<'a, C: ArgumentCheck>(
         All (IsRightForSlices (sound_basis mode C.refusal validator.now) steps) reports.items) }
     ensures responses { IfOk result (λ reports.
         HaveSameResponses (sound_basis mode C.refusal validator.now) steps reports.items) }
+    ensures unneeded { IfOk result (λ reports. All (λ r.
+        IsUnneeded (sound_basis mode C.refusal validator.now) r.report) reports.items) }
     ensures exact { IfOk result (λ reports. All (λ r. IsReportOf
         (AreFindingsWithin steps (sound_basis mode C.refusal validator.now)) r.report) reports.items) }
 {
@@ -82,10 +86,9 @@ pub fn level_of(reports: &[SliceReport<'_>]) -> Option<EntityDerefLevel>
     Some(EntityDerefLevel { level: greatest })
 }
 
-/// The findings in a policy, with a level error for each place where it dereferences more than `steps`
-/// entities, one after another. Each environment is typed once, because one survey answers both. The
-/// policy is accepted exactly where neither its checks, nor its names, nor its levels have an error, and
-/// each error is listed (clause `exact`). Where memory is refused, the
+/// The findings in a policy, with a level error for each place where it dereferences more than `steps` entities, one after
+/// another. Each environment is typed once, because one survey answers both. The policy is accepted exactly if neither its
+/// checks, nor its names, nor its levels have an error, and each error is listed (clause `exact`). If memory is refused, the
 /// answer is an `AllocError`.
 pub fn validate_within<C: ArgumentCheck>(
     alloc: Global,

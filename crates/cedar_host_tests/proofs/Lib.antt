@@ -1,0 +1,5 @@
+mod Conclusions
+mod LeftOut
+mod LoadedData
+mod Places
+mod Promises

@@ -1,1 +1,6 @@
+pub mod Conclusions
+pub mod LeftOut
+pub mod LoadedData
 pub mod Memory
+pub mod Places
+pub mod Promises

@@ -1,4 +1,4 @@
--- A store in memory, as a store.
+-- Entities in memory, as a store.
 use Rattle.std.specs.Prelude.{◌≡◌, List, [], ◌∷◌, ◌++◌, codes, map, Bool, true, false, Some, if◌then◌else◌}
 use Rattle.std.proofs.Common.{inl, inr}
 use Rattle.cedar_types.specs.Names.{Uid, uid_of, uid_eq}
@@ -15,7 +15,7 @@ abbrev pub members : List Uid → Values
 members [] = no_values
 members (u ∷ us) = more_values (VEntity u) (members us)
 
--- an entity with that set as its one attribute
+-- an entity with the set of its links as its one attribute
 abbrev pub entity_of : Linked → Entity
 entity_of e = record {
   attributes = more_entries (codes "links") (VSet (members (map uid_of e.links.items))) no_entries;
@@ -26,12 +26,12 @@ entity_of e = record {
 abbrev pub stored : Linked → Uid × Entity
 stored e = (uid_of e.id, entity_of e)
 
--- what is answered of an id: the links of the first entity that has it
+-- the answer for an id: the links of the first entity that has it
 abbrev pub links_of : List Linked → Uid → List Uid
 links_of [] u = []
 links_of (e ∷ es) u = if uid_eq u (uid_of e.id) then map uid_of e.links.items else links_of es u
 
--- ---- the answer leaves no id out
+-- ---- the answer has all ids
 
 in_members : (us : List Uid) (v : Uid) → IsOneOf v (ids_in_members (members us)) → IsOneOf v us
 in_members [] v h = h

@@ -1,4 +1,4 @@
-// Which policies, requests and entities are let in.
+// Admission of policies, requests and entities.
 use crate::embedding::policies::{by_its_contact, of_one_user, unguarded};
 use crate::embedding::schemas::documents;
 use cedar_conformance::entities::{Entities, Entity};
@@ -53,7 +53,7 @@ fn entities(alloc: Global) -> Result<Entities, AllocError> {
     Ok(all)
 }
 
-/// To view the plan.
+/// A request to view the plan.
 fn view_by(alloc: Global, principal: EntityUID) -> Result<Request, AllocError> {
     Ok(Request {
         principal,
@@ -95,7 +95,7 @@ fn by_contact_admitted(
     Ok(answer)
 }
 
-/// That a request is about principals of a type to which its action does not apply.
+/// The fault of a request whose principals are of a type to which its action does not apply.
 fn of_a_document(alloc: Global) -> Result<RequestFault, AllocError> {
     let found = EntityType::from(Name::unqualified_name(alloc, "Document")?);
     Ok(RequestFault::PrincipalType(found))
@@ -119,7 +119,7 @@ fn a_request_that_does_not_conform_is_not_let_in(rt: HostRuntime) -> Result<(), 
     Ok(())
 }
 
-/// Adds the template with these links, of which the answer is this, to no other policies, and asks how many there are then.
+/// Adds the template with these links to no other policies, and checks the answer and the number of policies then.
 fn adds<'a, C: ArgumentCheck>(
     rt: &impl Abort,
     alloc: Global,
@@ -199,7 +199,7 @@ fn views_are_let_in<C: ArgumentCheck>(
     Ok(())
 }
 
-/// How many faults these entities have, if they have any; if they have none, views over them are let in.
+/// The number of faults of these entities, if they have any; if they have none, views over them are let in.
 fn faults_or_views<C: ArgumentCheck>(
     rt: &impl Abort,
     alloc: Global,
@@ -240,7 +240,7 @@ fn requests_are_let_in_over_a_store_that_was_checked(rt: HostRuntime) -> Result<
     Ok(())
 }
 
-/// The answer on a policy that is validated at once, for slices of so many steps, in a view by alice.
+/// The answer on a policy that is validated at once, for slices of `steps` steps, in a view by alice.
 fn validated(
     alloc: Global,
     template: &Template,
@@ -259,7 +259,7 @@ fn validated(
     Ok(validate_and_admit(alloc, &validator, mode, steps, &policy, &request, &entities)?)
 }
 
-/// That a policy is refused by its validation.
+/// Checks that a policy is refused by its validation.
 fn is_refused(
     rt: &impl Abort,
     alloc: Global,

@@ -1,4 +1,4 @@
-// The typed conditions of a policy.
+// Typed conditions of a policy.
 use crate::embedding::policies::{approved_sharing, unguarded};
 use crate::embedding::schemas::documents;
 use cedar_host::conditions::{TypedCondition, typed_conditions};
@@ -39,7 +39,7 @@ fn all_shown(
     Ok(Some(lines))
 }
 
-/// The context of a view has no `approved`.
+/// A view's context has no `approved`, so the condition is False there.
 #[test]
 fn each_environment_has_a_typed_condition(rt: HostRuntime) -> Result<(), Fail> {
     let alloc = rt.alloc();

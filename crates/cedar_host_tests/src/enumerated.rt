@@ -49,7 +49,7 @@ fn types(alloc: Global) -> Result<Vec<ValidatorEntityType>, AllocError> {
     Ok(vec![in alloc; status]?)
 }
 
-/// The schema that has it, and no action.
+/// The schema with this type, and no action.
 fn statuses(alloc: Global) -> Result<ValidatorSchema, SchemaError> {
     ValidatorSchema::new(alloc, types(alloc)?, Vec::new(alloc))
 }
@@ -65,7 +65,7 @@ fn is_a_status(alloc: Global, eid: &str) -> Result<Template, AllocError> {
     )
 }
 
-/// That this is said of the policy with this id alone. Without an action no environment refuses it.
+/// Checks that the report on the policy with only this id is this one. Without an action no environment refuses it.
 fn is_said_of(rt: &impl Abort, alloc: Global, eid: &str, want: Want) -> Result<(), SchemaError> {
     let policies = alone(alloc, is_a_status(alloc, eid)?, "")?;
     let extensions = ExtensionSchemas::default(alloc);

@@ -1,4 +1,4 @@
-// The texts that the functions of Cedar read, and a gate's findings on a policy with another.
+// Texts that the functions of Cedar read, and a gate's findings on a policy with another text.
 use crate::embedding::policies::permit_when;
 use crate::embedding::schemas::documents;
 use crate::wanted::{REFUSED, Want, alone, are_said};
@@ -217,7 +217,7 @@ const UNREAD: &[(Constructor, &[&str])] = &[
     ),
 ];
 
-/// That a function reads all of these texts, or none.
+/// Checks that a function reads all of these texts, or none.
 fn are_read(rt: &impl Abort, function: Constructor, texts: &[&str], wanted: bool) {
     for text in texts {
         assert_eq!(rt; function.reads(text), wanted);

@@ -38,7 +38,7 @@ fn ids_in_order(rt: HostRuntime) -> Result<(), Fail> {
     Ok(())
 }
 
-/// A set has the ids that were added to it, of any set that shares them, and no other ones.
+/// A set has the ids that were added to it, even if another set shares them, and no others.
 #[test]
 fn ids_that_are_there(rt: HostRuntime) -> Result<(), Fail> {
     let alloc = rt.alloc();

@@ -1,6 +1,6 @@
 //! What the host says of a set of policies, in which environments one is safe, its typed conditions,
-//! and what a host that loads slices says and finds. They stand apart, since a crate with tests is
-//! proved twice.
+//! and what a host that loads slices says and finds; and examples of its promises. They stand apart, since a
+//! crate with tests is proved twice.
 #![tactic(auto)]
 
 #[cfg(test)]
@@ -10,6 +10,7 @@ mod conditions;
 pub mod embedding;
 #[cfg(test)]
 mod enumerated;
+pub mod examples;
 #[cfg(test)]
 mod extensions;
 #[cfg(test)]

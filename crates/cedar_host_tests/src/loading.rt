@@ -1,4 +1,4 @@
-// The ids that a host finds in a small store, and how often it asks for those that an entity holds.
+// Ids that a host finds in a small store, and the number of times that it asks for the ids inside an entity.
 use crate::memory::{Linked, Memory};
 use cedar_host::loading::ids_within;
 use cedar_types::base::{EntityType, EntityUID, Name};
@@ -29,8 +29,7 @@ fn link(alloc: Global, eid: &str, links: &[&str]) -> Result<Linked, AllocError> 
     Ok(Linked { id, links })
 }
 
-/// `ann` is linked to `bob` and `cal`, these to `dan`, he to `ann` and to `gil`, who is not stored; `eve`
-/// to `fay`.
+/// `ann` is linked to `bob` and `cal`, these to `dan`, he to `ann` and to `gil`, who is not stored; `eve` is linked to `fay`.
 const LINKS: [(&str, &[&str]); 6] = [
     ("ann", &["bob", "cal"]),
     ("bob", &["dan"]),
@@ -40,7 +39,7 @@ const LINKS: [(&str, &[&str]); 6] = [
     ("fay", &[]),
 ];
 
-/// The store that has these, and was not asked yet.
+/// The store of these users, which was not asked yet.
 pub fn memory(alloc: Global) -> Result<Memory, AllocError> {
     let mut entities = Vec::new(alloc);
     for (eid, links) in LINKS {
@@ -53,7 +52,7 @@ pub fn memory(alloc: Global) -> Result<Memory, AllocError> {
     })
 }
 
-/// The ids that are found within so many steps of `ann`, and how often the store is asked.
+/// The number of steps, the ids that are found within them from `ann`, and the number of questions to the store.
 const WANTED: [(u32, &[&str], i64); 6] = [
     (0, &[], 0),
     (1, &["ann"], 0),
@@ -63,13 +62,13 @@ const WANTED: [(u32, &[&str], i64); 6] = [
     (u32::MAX, &["ann", "bob", "cal", "dan", "gil"], 5),
 ];
 
-/// The ids within so many steps of `ann`, which is named twice.
+/// The ids within this many steps of `ann`, which is named twice.
 fn find(alloc: Global, memory: &Memory, steps: u32) -> Result<BTreeSet<EntityUID>, AllocError> {
     let start = users(alloc, &["ann", "ann"])?;
     ids_within(alloc, memory, &start, steps)
 }
 
-/// That these are the ids.
+/// Checks that these are the ids.
 pub fn are_users(
     rt: &impl Abort,
     alloc: Global,
@@ -83,7 +82,7 @@ pub fn are_users(
     Ok(())
 }
 
-/// That these are found within so many steps, and how often the store is asked.
+/// Checks that these ids are found within `steps` steps, and the number of questions to the store.
 fn are_found(
     rt: &impl Abort,
     alloc: Global,
@@ -105,7 +104,7 @@ fn what_is_reached_is_found_and_no_entity_asked_twice(rt: HostRuntime) -> Result
     Ok(())
 }
 
-/// So many users, whose ids share the name of their type.
+/// This many users, whose ids share the name of their type.
 fn numbered(alloc: Global, count: usize) -> Result<Vec<EntityUID>, AllocError> {
     let of_users = EntityType::from(Name::unqualified_name(alloc, "User")?);
     let mut users = Vec::new(alloc);
@@ -125,7 +124,7 @@ fn copies(ids: &[EntityUID], alloc: Global) -> Result<Vec<EntityUID>, AllocError
     Ok(copies)
 }
 
-/// How many users there are, each of which is linked to all.
+/// The number of users, each of which is linked to all.
 const MANY: usize = 40;
 
 #[test]
@@ -145,7 +144,7 @@ fn what_many_hold_is_not_gathered(rt: HostRuntime) -> Result<(), Fail> {
     };
     let ids = ids_within(alloc, &memory, users.as_slice().get(..1).unwrap_or(&[]), 3)?;
     assert_eq!(rt; ids.len(), MANY);
-    // the store has MANY times MANY, and a few times MANY are found
+    // the store holds MANY times MANY ids, and a few times MANY are found
     let most = memory.most.get();
     assert!(rt; most < MANY * MANY + 8 * MANY, "{most}");
     Ok(())

@@ -1,4 +1,4 @@
-// A store in memory, whose entities have one attribute each.
+// Entities in memory, each with one attribute.
 ghost use Rattle.std.specs.Prelude.{◌≡◌, IfOk, map};
 ghost use Rattle.cedar_types.specs.Names.{uid_of, uid_eq};
 
@@ -15,8 +15,8 @@ pub struct Linked {
     pub links: Vec<EntityUID>,
 }
 
-/// Entities, how often one was asked what it holds, and how many ids there were then at most: of those that share the name of
-/// their type.
+/// Entities, the number of questions for the ids inside one, and the greatest number of ids at any of them, counted by the ids
+/// that share the name of their type.
 #[derive(Drop)]
 pub struct Memory {
     pub entities: Vec<Linked>,

@@ -1,4 +1,4 @@
-// The host's reports on a set of policies.
+// Reports of a host on a set of policies.
 use crate::embedding::policies::{
     APPROVED_SHARING, BY_A_DOCUMENT, FROM_NOWHERE, FROM_RANGE, HAUNTED, MISSPELT, OF_EITHER,
     OF_ONE_USER, UNGUARDED, approved_sharing, by_a_document, from_nowhere, from_range, haunted,
@@ -70,7 +70,7 @@ const UNFIT_WANTED: Want = Want {
     ..IMPOSSIBLE
 };
 
-/// Of the last one in Strict.
+/// The report on the last policy in Strict.
 const DISAGREES: Want = Want {
     errors: &[
         "44..93 `if principal has vip then principal else resource`: for policy `policy6`, \
@@ -79,7 +79,7 @@ const DISAGREES: Want = Want {
     ..REFUSED
 };
 
-/// Of all, where this is said of the last one.
+/// The reports on all policies, with this one on the last.
 fn wanted(last: Want) -> [Want; 7] {
     [
         ACCEPTED,
@@ -92,7 +92,7 @@ fn wanted(last: Want) -> [Want; 7] {
     ]
 }
 
-/// That these are said of the policies in this mode, by the schema of documents and these functions.
+/// Checks the reports on the policies in this mode, by the schema of documents and these functions.
 fn are_said_by(
     rt: &impl Abort,
     alloc: Global,
@@ -110,7 +110,7 @@ fn are_said_by(
     Ok(())
 }
 
-/// Of the whole set in this mode.
+/// Checks the reports on the whole set in this mode.
 fn are_said_of_all(
     rt: &impl Abort,
     alloc: Global,
@@ -132,7 +132,7 @@ fn in_permissive_a_policy_may_unite_types(rt: HostRuntime) -> Result<(), Fail> {
     Ok(are_said_of_all(&rt, rt.alloc(), SoundMode::Permissive, &wanted(ACCEPTED))?)
 }
 
-/// That the check alone passes a policy, and finds nothing.
+/// Checks that the check alone passes a policy, and finds nothing.
 fn is_silent(
     rt: &impl Abort,
     alloc: Global,
@@ -162,7 +162,7 @@ fn refused(errors: &'static [&'static str]) -> Want {
     Want { errors, ..REFUSED }
 }
 
-/// Of a policy alone, by the table of Cedar's functions.
+/// Checks the report on a policy alone, by the table of Cedar's functions.
 fn is_said_alone(
     rt: &impl Abort,
     alloc: Global,

@@ -23,7 +23,7 @@ fn vip_at(alloc: Global, start: usize, end: usize) -> Result<Expr, AllocError> {
     Ok(access.with_maybe_source_loc(Some(Loc { start, end })))
 }
 
-/// Two errors: as a text, the place of the second comes first.
+/// Two errors: in the order of texts, the place of the second comes first.
 fn twice_unguarded(alloc: Global) -> Result<Template, AllocError> {
     let first = vip_at(alloc, 9, 22)?;
     let second = vip_at(alloc, 100, 113)?;
@@ -75,7 +75,7 @@ fn is_twice_unguarded(rt: &impl Abort, report: &KeptReport) {
                 Some(ValidationError::UnsafeOptionalAttributeAccess(_))
             )
         );
-        // to view and to share
+        // one environment to view, and one to share
         assert_eq!(rt; error.environments.count, 2);
     }
 }
@@ -89,7 +89,7 @@ fn policies_with_ids(alloc: Global, ids: &[&str]) -> Result<Vec<WrittenPolicy>, 
     Ok(policies)
 }
 
-/// That these ids are shared in a set.
+/// Checks that these ids are shared in a set.
 fn are_repeated(
     rt: &impl Abort,
     alloc: Global,
@@ -117,7 +117,7 @@ fn ids_that_are_shared_are_named(rt: HostRuntime) -> Result<(), Fail> {
     Ok(())
 }
 
-/// The level of a set, of which each policy has this condition or that.
+/// The level of a set whose policies have these templates.
 fn level_of_set(
     alloc: Global,
     templates: Vec<Template>,

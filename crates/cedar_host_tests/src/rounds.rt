@@ -1,4 +1,4 @@
-// Which ids a host is asked for, round by round, with an error of its own, and how the rounds end.
+// Questions to a host, round by round, with an error of its own, and the ends of the rounds.
 use crate::embedding::in_rounds::{held_by, ids_in_rounds};
 use crate::loading::{are_users, memory, users};
 use cedar_host::rounds::Rounds;
@@ -7,10 +7,10 @@ use std::alloc::{AllocError, Global};
 use std::process::Abort;
 use std::test::Fail;
 
-/// The ids that each round wants if `ann` is the start: those reached in no step, in one, in two, and in three.
+/// The ids that each round wants if `ann` is the start: those that are reached in no step, in one, in two, and in three.
 const ROUNDS: [&[&str]; 4] = [&["ann"], &["bob", "cal"], &["dan"], &["gil"]];
 
-/// The ids that are reached from `ann` within so many steps.
+/// The number of steps, and the ids that are reached from `ann` within them.
 const WITHIN: [(u32, &[&str]); 6] = [
     (0, &[]),
     (1, &["ann"]),
@@ -20,7 +20,7 @@ const WITHIN: [(u32, &[&str]); 6] = [
     (9, &["ann", "bob", "cal", "dan", "gil"]),
 ];
 
-/// Why a host has no slice.
+/// The reason why a host has no slice.
 #[derive(Debug, Drop)]
 enum LoadError {
     Memory,
@@ -41,7 +41,7 @@ fn query(alloc: Global, wanted: &[EntityUID]) -> Result<Vec<EntityUID>, LoadErro
     Ok(held_by(alloc, &memory(alloc)?, wanted)?)
 }
 
-/// That these are wanted, in this order.
+/// Checks that these ids are wanted, in this order.
 fn are_wanted(
     rt: &impl Abort,
     alloc: Global,
@@ -57,7 +57,7 @@ fn are_wanted(
     Ok(())
 }
 
-/// The ids of a slice, if the last round is not asked for the ids that it holds.
+/// The number of ids in a slice, if the ids inside the entities of the last round are not asked for.
 fn load(alloc: Global, steps: u32) -> Result<usize, LoadError> {
     let mut rounds = Rounds::begin(alloc, &users(alloc, &["ann"])?, steps)?;
     for _round in 1..steps {

@@ -1,4 +1,4 @@
-// In how many environments a policy is safe.
+// Environments in which a policy is safe.
 use crate::embedding::policies::{
     approved_sharing, from_nowhere, from_range, of_either, unguarded,
 };
@@ -11,7 +11,7 @@ use std::alloc::{AllocError, Global};
 use std::process::Abort;
 use std::test::Fail;
 
-/// In how many environments of the schema the policy is safe.
+/// The number of environments of the schema in which the policy is safe.
 fn safe_environments(
     alloc: Global,
     validator: &Validator<'_>,
@@ -30,7 +30,7 @@ fn safe_environments(
     Ok(safe)
 }
 
-/// That a policy is safe in so many environments in Strict, and in so many in Permissive, by the schema of documents.
+/// Checks the number of environments in which a policy is safe in Strict, and in Permissive, by the schema of documents.
 fn is_safe_in_so_many(
     rt: &impl Abort,
     alloc: Global,
@@ -47,7 +47,7 @@ fn is_safe_in_so_many(
     Ok(())
 }
 
-/// The same of a policy that calls no functions.
+/// Checks these numbers for a policy that calls no functions.
 fn is_safe_without_calls(
     rt: &impl Abort,
     alloc: Global,
@@ -72,7 +72,7 @@ fn types_unite_in_permissive_alone(rt: HostRuntime) -> Result<(), Fail> {
     Ok(is_safe_without_calls(&rt, alloc, &of_either(alloc)?, [0, 2])?)
 }
 
-/// That one is safe whose check refuses nothing, and one that it refuses is not.
+/// Checks that a policy is safe if its check refuses nothing, and is not if the check refuses it.
 fn calls_are_safe_in(
     rt: &impl Abort,
     alloc: Global,

@@ -1,4 +1,4 @@
-// The host's reports on a set of policies that it evaluates over slices.
+// Reports of a host on a set of policies that it evaluates over slices.
 use crate::embedding::policies::{
     APPROVED_SHARING, BY_ITS_CONTACT, BY_THEIR_CONTACT, MISSPELT, UNGUARDED, approved_sharing,
     by_its_contact, by_their_contact, misspelt, unguarded,
@@ -35,7 +35,7 @@ const MISSPELT_WANTED: Want = Want {
     ..IMPOSSIBLE
 };
 
-/// With any number of steps. The check and the validation with levels find the same error.
+/// The report at any number of steps. The check and the validation with levels find one error, and it is listed once.
 const UNGUARDED_WANTED: Want = Want {
     errors: &[
         "43..56 `principal.vip`: for policy `policy4`, \
@@ -44,7 +44,7 @@ const UNGUARDED_WANTED: Want = Want {
     ..REFUSED
 };
 
-/// With any number of steps, though the validation with levels finds no error.
+/// The report at any number of steps, though the validation with levels finds no error.
 const UNKNOWN_WANTED: Want = Want {
     errors: &["for policy `policy5`, no error says why: an unknown, or too deep a nesting"],
     ..REFUSED
@@ -103,7 +103,7 @@ const WITH_TWO: &[Want] = &[
     UNKNOWN_WANTED,
 ];
 
-/// That these are said of the policies, in this mode, for slices of so many steps.
+/// Checks the reports on the policies, in this mode, for slices of `steps` steps.
 fn are_said(
     rt: &impl Abort,
     alloc: Global,

@@ -1,4 +1,4 @@
-// The report that the host should give on a policy, and whether it does.
+// Reports that the host should give on policies, and comparisons with those that it gives.
 use crate::embedding::policies::permit_when;
 use cedar_host::policy_sets::WrittenPolicy;
 use cedar_host::reports::PolicyReport;
@@ -39,7 +39,7 @@ pub fn number_policies(
     Ok(policies)
 }
 
-/// This policy alone, with its text.
+/// A set of only this policy, with its text.
 pub fn alone(
     alloc: Global,
     template: Template,
@@ -70,7 +70,7 @@ pub const ACCEPTED: Want = Want {
     warnings: &[],
 };
 
-/// The report without findings.
+/// The report of a refusal without findings.
 pub const REFUSED: Want = Want {
     is_accepted: false,
     ..ACCEPTED
@@ -81,7 +81,7 @@ pub const IMPOSSIBLE: Want = Want {
     ..ACCEPTED
 };
 
-/// That these are said of policies.
+/// Checks that these are the reports on policies.
 pub fn are_said(rt: &impl Abort, reports: &[PolicyReport<'_>], wanted: &[Want]) {
     assert_eq!(rt; reports.len(), wanted.len());
     for (report, want) in reports.iter().zip(wanted) {
@@ -89,7 +89,7 @@ pub fn are_said(rt: &impl Abort, reports: &[PolicyReport<'_>], wanted: &[Want]) 
     }
 }
 
-/// That this is said of a policy.
+/// Checks that this is the report on a policy.
 pub fn is_said(rt: &impl Abort, report: &PolicyReport<'_>, want: &Want) {
     assert_eq!(rt; report.is_accepted, want.is_accepted);
     assert_eq!(rt; report.is_impossible, want.is_impossible);

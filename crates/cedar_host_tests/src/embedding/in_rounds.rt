@@ -1,4 +1,4 @@
-//! A host that asks its entities once a round, and the promise that it has of `Rounds`.
+//! A host that asks its entities once a round, and the promise that `Rounds` makes to it.
 ghost use Rattle.std.specs.Prelude.{◌≡◌, ◌++◌, IfOk, OnOk, map};
 ghost use Rattle.std.specs.List.{flat_map};
 ghost use Rattle.cedar_types.specs.Names.{uid_of};
@@ -11,8 +11,8 @@ use cedar_types::base::EntityUID;
 use std::alloc::{AllocError, Global};
 use std::collections::BTreeSet;
 
-/// The ids of the entities that a slice of `steps` steps has, of each request whose own ids are among
-/// these. Where memory is refused, the answer is an `AllocError`.
+/// The ids of the entities in a slice of `steps` steps, for each request whose own ids are among `start`. If memory is refused,
+/// the answer is an `AllocError`.
 pub fn ids_in_rounds<E: Entities>(
     alloc: Global,
     entities: &E,
@@ -30,7 +30,7 @@ pub fn ids_in_rounds<E: Entities>(
     Ok(rounds.into_ids())
 }
 
-/// The ids that these entities hold, together. Where memory is refused, the answer is an `AllocError`.
+/// The ids that these entities hold, all together. If memory is refused, the answer is an `AllocError`.
 pub fn held_by<E: Entities>(
     alloc: Global,
     entities: &E,

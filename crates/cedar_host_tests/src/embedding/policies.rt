@@ -5,46 +5,46 @@ use cedar_types::base::{
 };
 use std::alloc::{AllocError, Global};
 
-/// About sharing alone: the context of a view has no `approved`.
+/// A policy about sharing alone, because the context of a view has no `approved`.
 pub const APPROVED_SHARING: &str =
     "permit(principal, action, resource) when { context has approved && context.approved };";
 
-/// A mark is read that users may not have.
+/// A policy that reads a mark which users may lack.
 pub const UNGUARDED: &str = "permit(principal, action, resource) when { principal.vip };";
 
-/// No user has an attribute of this name.
+/// A policy that tests for an attribute which no user has.
 pub const MISSPELT: &str = "permit(principal, action, resource) when { principal has vlp };";
 
-/// Users whose address is in a range.
+/// A policy for users whose address is in a range.
 pub const FROM_RANGE: &str =
     "permit(principal, action, resource) when { principal.address.isInRange(ip(\"10.0.0.0/8\")) };";
 
-/// The range is no address.
+/// A policy whose range is no address.
 pub const FROM_NOWHERE: &str =
     "permit(principal, action, resource) when { principal.address.isInRange(ip(\"\")) };";
 
-/// No type has the name `Ghost`. Of sharing, typing does not look at that part, and of viewing it
-/// says no more than that the part is False.
+/// A policy with an undeclared type `Ghost`. Typing does not look at that part for sharing, and for viewing it finds only that
+/// the part is False.
 pub const HAUNTED: &str =
     "permit(principal, action, resource) when { action == Action::\"share\" || \
      ((Ghost::\"casper\" < 1) && false) };";
 
-/// The contact of a user or of a document. In Strict these two types do not agree.
+/// A policy that reads the contact of a user or of a document. In Strict these two types do not agree.
 pub const OF_EITHER: &str = "permit(principal, action, resource) when { \
      (if principal has vip then principal else resource).contact == principal };";
 
-/// The user to ask of the document: its entry alone is read.
+/// A policy about the user to ask for the document: it reads only the document's entry.
 pub const BY_ITS_CONTACT: &str =
     "permit(principal, action, resource) when { resource.contact == principal };";
 
-/// The user to ask of that user: the entries of both are read.
+/// A policy about the user to ask for that user: it reads the entries of both.
 pub const BY_THEIR_CONTACT: &str =
     "permit(principal, action, resource) when { resource.contact.contact == principal };";
 
-/// About the user that the slot is bound to.
+/// A policy about the user that the slot is bound to.
 pub const OF_ONE_USER: &str = "permit(principal == ?principal, action, resource);";
 
-/// No action is on documents as principals.
+/// A policy that fits no action, because none takes documents as principals.
 pub const BY_A_DOCUMENT: &str = "permit(principal == Document::\"plan\", action, resource);";
 
 /// The place at which the text first has this part.
@@ -145,7 +145,7 @@ pub fn by_their_contact(alloc: Global) -> Result<Template, AllocError> {
     by_contact(alloc, BY_THEIR_CONTACT, user, place)
 }
 
-/// The policy of this text, where the contact of this is the principal; the access of it is at this place.
+/// The policy of this text, in which the contact of `owner` is the principal; the access to it is at this place.
 fn by_contact(
     alloc: Global,
     text: &str,
@@ -169,7 +169,7 @@ pub fn by_a_document(alloc: Global) -> Result<Template, AllocError> {
     permit_to(alloc, BY_A_DOCUMENT, PrincipalConstraint::is_eq(plan))
 }
 
-/// The policy of this text, with this constraint on the principal alone.
+/// The policy of this text, with only this constraint on the principal.
 fn permit_to(
     alloc: Global,
     text: &str,

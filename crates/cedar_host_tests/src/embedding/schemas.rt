@@ -1,4 +1,4 @@
-//! A schema: users, documents, and two actions on them.
+//! A schema of users, documents, and two actions on them.
 use cedar_types::base::{
     AttributeType, Attributes, CedarType, EntityType, EntityUID, Name, OpenTag, SchemaError,
     StandardValidatorEntityType, ValidatorActionId, ValidatorActionKind, ValidatorApplySpec,
@@ -35,7 +35,7 @@ pub fn address(alloc: Global) -> Result<CedarType, AllocError> {
     CedarType::extension(alloc, Name::unqualified_name(alloc, "ipaddr")?)
 }
 
-/// The attribute of a user to ask.
+/// The attribute with a user to ask.
 fn contact(alloc: Global) -> Result<AttributeType, AllocError> {
     let user = CedarType::named_entity_reference(alloc, entity_type(alloc, "User")?)?;
     Ok(AttributeType::required_attribute(user))
@@ -95,7 +95,7 @@ fn types(alloc: Global) -> Result<Vec<ValidatorEntityType>, AllocError> {
     Ok(vec![in alloc; users, documents]?)
 }
 
-/// To view a document, and to share it, which the context may say is `approved`.
+/// The actions to view a document and to share it. The context of sharing may tell that it is `approved`.
 fn actions(alloc: Global) -> Result<Vec<ValidatorActionId>, AllocError> {
     let view = action(alloc, "view", no_attributes(alloc)?)?;
     let share = action(alloc, "share", optional_mark(alloc, "approved")?)?;

@@ -9,7 +9,7 @@ use Rattle.cedar_typing.specs.Views.EnvironmentChecks.{checker_of, template_in, 
 use Rattle.cedar_host.specs.Conditions.{env_in, IsOfCheck}
 use Rattle.cedar_host.proofs.conditions.typed_conditions.Given as goal
 
--- each condition found is that of a check, and their environments with those that are left are all
+-- each condition so far is the one of a check, and the environments of these and of the rest are all
 abbrev pub invariant-loop-item : goal.invariant-loop-item
 invariant-loop-item g l =
     let all : List Env = checked_envs (schema_of (schema_by l.fn.typechecker).now)

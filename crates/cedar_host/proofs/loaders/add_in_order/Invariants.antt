@@ -5,7 +5,7 @@ use Rattle.cedar_typing.specs.Evaluation.Conformance.{IsOneOf}
 use Rattle.cedar_conformance.specs.Entities.{store_of}
 use Rattle.cedar_host.proofs.loaders.add_in_order.Given as goal
 
--- of other ids the entities have what they had
+-- the entities keep their entries for other ids
 abbrev pub invariant-loop-id : goal.invariant-loop-id
 invariant-loop-id l =
     (u : Uid) → (IsOneOf u (map uid_of l.ids) → ⊥)

@@ -5,7 +5,7 @@ use Rattle.cedar_types.specs.Schemas.Declarations.{uids_of}
 use Rattle.cedar_host.specs.Loading.{AddsNew}
 use Rattle.cedar_host.proofs.loading.add_held.Given as goal
 
--- what the holders so far hold is added
+-- the ids that the holders so far hold are added
 abbrev pub invariant-loop-holder : goal.invariant-loop-holder
 invariant-loop-holder g l =
     AddsNew (uids_of l.fn.ids)

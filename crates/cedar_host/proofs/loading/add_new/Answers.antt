@@ -19,7 +19,7 @@ use Rattle.cedar_host.proofs.AddedIds.{lacked, had, fresh_too, not_added}
 use Rattle.cedar_host.proofs.loading.add_new.Goals as goal
 use Rattle.cedar_host.proofs.loading.add_new.Goals.{then-branch+in_ok-clone-2+in_ok-push, else-branch}
 
--- equal ids are the same
+-- ids that compare as equal are equal
 same_ids : (a b : EntityUID) → entity_uid_cmp a b ≡ Equal → uid_of a ≡ uid_of b
 same_ids a b e =
     (uid_decides (uid_of a) (uid_of b)).0

@@ -4,7 +4,7 @@ use Rattle.cedar_types.specs.Schemas.Declarations.{uids_of}
 use Rattle.cedar_host.proofs.FoundInRounds.{IsRound}
 use Rattle.cedar_host.proofs.loading.ids_within.Given as goal
 
--- one step is done by the first ids, and each further one by a round
+-- the first ids make one step, and each round one more
 abbrev pub invariant-loop-step : goal.invariant-loop-step
 invariant-loop-step g l =
     (k : ℕ) × (l._step ≡ suc k)

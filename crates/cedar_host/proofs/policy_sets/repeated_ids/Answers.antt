@@ -22,7 +22,7 @@ swapped true false = refl
 swapped false true = refl
 swapped false false = refl
 
--- what is not so is so where it is not not so
+-- a negation, turned round
 twice_not : (a b : Bool) → a ≡ not b → b ≡ not a
 twice_not a true e = ap not (sym e)
 twice_not a false e = ap not (sym e)
@@ -31,7 +31,7 @@ same_texts : (a b : RcStr Global) → text_cmp (text_of a) (text_of b) ≡ Equal
 same_texts a b e =
     (bytes_eq-Decides (text_of a) (text_of b)).0 (texts_ties (text_of a) (text_of b) ∙ ap is_eq e)
 
--- a set of texts is asked by text
+-- a set of texts is searched by text
 contained : (put : RcStr Global) (ks : List (RcStr Global))
     → list_any (λ k. is_eq (text_cmp (text_of put) (text_of k))) ks ≡ list_any (text_eq (text_of put)) (map text_of ks)
 contained put [] = refl

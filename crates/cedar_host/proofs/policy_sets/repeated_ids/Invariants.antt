@@ -4,7 +4,7 @@ use Rattle.cedar_types.specs.Names.{Text, text_of, text_eq}
 use Rattle.cedar_host.specs.Repeats.{AreRepeats, id_in}
 use Rattle.cedar_host.proofs.policy_sets.repeated_ids.Given as goal
 
--- the ids so far were seen, and those of them that came again are listed
+-- the ids so far were seen, and their repeats are listed
 abbrev pub invariant-loop-policy : goal.invariant-loop-policy
 invariant-loop-policy l = record {
   seen : (t : Text) → list_any (text_eq t) (map text_of l.seen.keys)

@@ -5,6 +5,7 @@ use Rattle.cedar_host.specs.declared.reports.PolicyReport.{PolicyReport}
 use Rattle.cedar_host.specs.Found.{AreFindingsOn, IsReportOf}
 use Rattle.cedar_host.specs.Safety.{sound_basis, IsRight}
 use Rattle.cedar_host.proofs.Reported.{one_more_each, one_more_right, report_of, right_report}
+use Rattle.cedar_host.proofs.ResponseLaws.{all_unneeded}
 use Rattle.cedar_host.proofs.policy_sets.validate_set.Goals as goal
 
 pub loop-policy-preserved : goal.loop-policy-preserved
@@ -21,7 +22,7 @@ loop-policy-preserved g c =
     report.impossible found.checked found.safe found.never_true in
     let exact_now =
     report_of (AreFindingsOn b) answer _ c.in_ok-findings.findings same found.exact report.accepted report.impossible
-    report.refused in
+    report.refused report.ordered in
     let old = c.loop-policy.reports.items in
     let pushed = c.in_ok-push.ensures.items in
     let inv = c.loop-policy.invariant in
@@ -32,3 +33,8 @@ loop-policy-preserved g c =
       right = one_more_right (IsRight b) old _ answer pushed inv.right right_now;
       exact = one_more_right (IsReportOf (AreFindingsOn b)) old _ answer pushed inv.exact exact_now;
     }
+
+pub returns-clause-unneeded : goal.returns-clause-unneeded
+returns-clause-unneeded g c =
+    all_unneeded (sound_basis c.args.mode g.C.ArgumentCheck.refusal c.args.validator.now)
+    c.loop-policy.reports.items c.loop-policy.invariant.right

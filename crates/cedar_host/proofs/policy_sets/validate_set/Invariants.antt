@@ -3,7 +3,7 @@ use Rattle.cedar_host.specs.Found.{AreFindingsOn, IsReportOf}
 use Rattle.cedar_host.specs.Safety.{sound_basis, IsRight}
 use Rattle.cedar_host.proofs.policy_sets.validate_set.Given as goal
 
--- the reports so far are on the policies so far, right, and say what was found
+-- the reports so far are on the policies so far, right, and tell the findings
 abbrev pub invariant-loop-policy : goal.invariant-loop-policy
 invariant-loop-policy g l = record {
   each : map (λ r. r.policy.now) l.reports.items ≡ take l.policy-index l.policies;

@@ -8,6 +8,7 @@ use Rattle.cedar_host.specs.Found.{AreFindingsWithin, IsReportOf}
 use Rattle.cedar_host.specs.Safety.{sound_basis}
 use Rattle.cedar_host.specs.Slices.{NeedsSliceAlone, IsRightForSlices}
 use Rattle.cedar_host.proofs.Reported.{one_more_each, one_more_right, report_of, right_report}
+use Rattle.cedar_host.proofs.ResponseLaws.{all_unneeded_in_slices}
 use Rattle.cedar_host.proofs.SameResponses.{accepted_respond_alike}
 use Rattle.cedar_host.proofs.slices.validate_for_slices.Goals as goal
 
@@ -32,7 +33,7 @@ loop-policy-preserved g c =
     } in
     let exact_now =
     report_of (AreFindingsWithin n b) own.report _ c.in_ok-found.found same found.exact report.accepted report.impossible
-    report.refused in
+    report.refused report.ordered in
     let IsOf : SliceReport → Type 0 = λ r. IsReportOf (AreFindingsWithin n b) r.report in
     let old = c.loop-policy.reports.items in
     let pushed = c.in_ok-push.ensures.items in
@@ -48,4 +49,9 @@ loop-policy-preserved g c =
 pub returns-clause-responses : goal.returns-clause-responses
 returns-clause-responses g c =
     accepted_respond_alike (sound_basis c.args.mode g.C.ArgumentCheck.refusal c.args.validator.now) c.args.steps
+    c.loop-policy.reports.items c.loop-policy.invariant.right
+
+pub returns-clause-unneeded : goal.returns-clause-unneeded
+returns-clause-unneeded g c =
+    all_unneeded_in_slices (sound_basis c.args.mode g.C.ArgumentCheck.refusal c.args.validator.now) c.args.steps
     c.loop-policy.reports.items c.loop-policy.invariant.right

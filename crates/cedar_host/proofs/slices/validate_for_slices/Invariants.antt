@@ -5,7 +5,7 @@ use Rattle.cedar_host.specs.Safety.{sound_basis}
 use Rattle.cedar_host.specs.Slices.{IsRightForSlices}
 use Rattle.cedar_host.proofs.slices.validate_for_slices.Given as goal
 
--- the reports so far are on the policies so far, right, and say what was found
+-- the reports so far are on the policies so far, right, and tell the findings
 abbrev pub invariant-loop-policy : goal.invariant-loop-policy
 invariant-loop-policy g l = record {
   each : map (λ r. r.report.policy.now) l.reports.items ≡ take l.policy-index l.policies;

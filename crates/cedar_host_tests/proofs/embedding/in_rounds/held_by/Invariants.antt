@@ -3,7 +3,7 @@ use Rattle.std.specs.List.{flat_map}
 use Rattle.cedar_types.specs.Names.{uid_of}
 use Rattle.cedar_host_tests.proofs.embedding.in_rounds.held_by.Given as goal
 
--- what the entities so far hold
+-- the ids that the entities so far hold
 abbrev pub invariant-loop-id : goal.invariant-loop-id
 invariant-loop-id g l =
     map uid_of l.all.items

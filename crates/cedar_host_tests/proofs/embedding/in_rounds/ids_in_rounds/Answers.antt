@@ -20,7 +20,7 @@ loop-round-init g c =
       λ none. begun.none (omega arith),
     )
 
--- no round is left where the last was made
+-- no round is left after the last one
 none_left : (left steps i : ℕ) → left ≡ steps - 1 - i → steps ≤ i + 1 → left ≡ 0
 none_left left steps i e le = omega arith
 
