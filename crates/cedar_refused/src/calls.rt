@@ -1,4 +1,4 @@
-// The calls that are made while memory is refused, a file for each subject.
+// Calls that are made while memory is refused, a file for each subject.
 pub mod answers;
 pub mod capabilities;
 pub mod checks;

@@ -1,6 +1,6 @@
 //! Makes calls while memory is refused, growth by growth: `scripts/refused.py` runs it.
 //!
-//! It prints a line for each call. Alone it makes each call once, and nothing is refused.
+//! It prints a line for each call. Run by itself, it makes each call once, and nothing is refused.
 #![tactic(auto)]
 
 mod calls;

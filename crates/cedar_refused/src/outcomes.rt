@@ -1,4 +1,4 @@
-// The outcome of a call that was made once.
+// Outcomes of a call that was made once.
 use crate::pictures::picture;
 use crate::refusals::was_refused;
 use std::alloc::{AllocError, Global};
@@ -7,7 +7,7 @@ use std::fmt::Debug;
 /// The outcome of a call while one growth was to be refused.
 #[derive(Drop)]
 pub struct Outcome {
-    /// All of its answer, unless that was want of memory.
+    /// All of the call's answer; none if memory was refused.
     pub answer: Option<String>,
     /// All values that were lent to the call, as they were afterwards.
     pub lent: String,

@@ -1,4 +1,4 @@
-// Values as texts, places included, to be compared where `==` passes over places.
+// Values as texts, with their places, because `==` passes over places.
 use std::alloc::{AllocError, Global};
 use std::collections::HashSet;
 use std::fmt::Debug;

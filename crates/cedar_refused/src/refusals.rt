@@ -1,13 +1,13 @@
 // Refusals of memory: the dialogue with `scripts/refuse.c`, which stands between the program and the C library.
 //
-// It knows two sizes of blocks that nothing else asks for, takes them as words, and refuses them. Without it they are
+// `refuse.c` knows two sizes of blocks that nothing else asks for, takes them as words, and refuses them. Without it they are
 // granted, and nothing is refused.
 use std::alloc::{AllocError, Global};
 
-/// A block of this size begins to refuse; with a number on top of it, the growth of that number alone.
+/// A block of this size begins to refuse; with a number on top of it, only the growth of that number.
 const BEGIN: usize = 50_000_000;
 
-/// A block of this size ends it. It is refused where a growth was.
+/// A block of this size ends the refusal. It is refused itself if a growth was.
 const END: usize = 49_999_999;
 
 /// The number of a growth that no call here has: nothing is refused.
@@ -18,17 +18,17 @@ fn is_granted(alloc: Global, size: usize) -> bool {
     block.is_ok()
 }
 
-/// From here on the growth of this number is refused, counted from 1 on. Whether anything listens.
+/// Refuses the growth of this number from here on, counted from 1. The answer tells whether `refuse.c` listens.
 pub fn refuse(alloc: Global, number: u16) -> bool {
     !is_granted(alloc, BEGIN.saturating_add(usize::from(number)))
 }
 
-/// From here on each growth is refused.
+/// Refuses each growth from here on.
 pub fn refuse_all(alloc: Global) -> bool {
     refuse(alloc, 0)
 }
 
-/// From here on nothing is refused. Whether anything was.
+/// Ends the refusal. The answer tells whether any growth was refused.
 pub fn was_refused(alloc: Global) -> bool {
     !is_granted(alloc, END)
 }

@@ -1,4 +1,4 @@
-// A line for each call: its name and its outcome.
+// Lines of the report: the name of each call and its outcome.
 use crate::calls::answers::FOLLOW_UPS;
 use crate::calls::capabilities::{BASES, SETS, TAGS};
 use crate::calls::copies::COPIES;
@@ -134,7 +134,7 @@ fn write_lines<'x, T: Probe, W: Write>(
 fn walks<W: Write>(alloc: Global, validator: &Validator<'_>, out: &mut W) -> io::Result<()> {
     let schema = validator.schema();
     let policy = policy(alloc, KNOWN)?;
-    // each of two actions with the slot linked in two ways, and the undeclared ones
+    // each of two actions, with the slot linked in two ways, and the undeclared ones
     let walk = Walk {
         schema,
         checker: &Typechecker::new(schema, validator.extensions(), MODE),

@@ -1,3 +1,3 @@
-// The values on which the calls are made.
+// Values on which the calls are made.
 pub mod findings;
 pub mod texts;

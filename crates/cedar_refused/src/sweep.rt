@@ -1,4 +1,5 @@
-// A call, made while its first growth is refused, then its second, until one goes through.
+// Sweeps over the growths of a call: it is made while its first growth is refused, then its second, until one call goes
+// through.
 use crate::refusals::{refuse, was_refused};
 use std::alloc::{AllocError, Global};
 
@@ -7,9 +8,9 @@ use std::alloc::{AllocError, Global};
 pub enum Attempt {
     /// Nothing was refused, and the answer is as ever.
     Whole,
-    /// Memory was refused, the call said so, and all else is as it should be.
+    /// Memory was refused, the call told it, and all else is as it should be.
     Refused,
-    /// Something is not as it should be.
+    /// The fault of a call whose outcome is wrong.
     Wrong(&'static str),
 }
 
@@ -50,7 +51,7 @@ pub fn sweep<C: Call>(alloc: Global, call: &C) -> Result<String, AllocError> {
 
 /// The outcome of a call whose answer is a success or not, if memory was refused or was not.
 ///
-/// No call may pass over a refusal: none of those that are tried here leaves a hint of std's to chance.
+/// No call may pass over a refusal, because no call that is tried here takes memory only as a hint.
 pub fn attempt_of(is_success: bool, was_refused: bool) -> Attempt {
     match (is_success, was_refused) {
         (true, false) => Attempt::Whole,
@@ -61,7 +62,7 @@ pub fn attempt_of(is_success: bool, was_refused: bool) -> Attempt {
 }
 
 impl Attempt {
-    /// The outcome itself if this holds, else the reason why not.
+    /// The outcome itself if this condition holds, else the fault.
     pub fn only_if(self, is_so: bool, fault: &'static str) -> Attempt {
         match self {
             Attempt::Wrong(first) => Attempt::Wrong(first),
@@ -71,17 +72,17 @@ impl Attempt {
     }
 }
 
-/// A question that takes memory, with all that it is asked of.
+/// A question that takes memory, with all that it is asked about.
 pub trait Question {
     type Answer: Drop;
 
     fn ask(&self, alloc: Global) -> Result<Self::Answer, AllocError>;
 
-    /// All of an answer.
+    /// All of an answer, as a text.
     fn show(&self, alloc: Global, answer: Self::Answer) -> Result<String, AllocError>;
 }
 
-/// The outcomes of a question that is asked while the growth of this number is refused, and again with ample memory.
+/// The outcome of a question that is asked while the growth of this number is refused, and again with ample memory.
 pub fn attempt_question<Q: Question>(
     alloc: Global,
     question: &Q,

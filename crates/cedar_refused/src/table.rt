@@ -1,8 +1,8 @@
-// The checks of policies, and the questions about them, that are made while memory is refused.
+// Checks of policies, and questions about them, that are made while memory is refused.
 use crate::calls::checks::{InEnvironment, OfValidator, Question};
 use crate::calls::types::{PARTIAL, PERMISSIVE, STRICT};
 
-/// Checks of conditions, by what they show.
+/// Checks of conditions, by the texts that they show.
 pub const CHECKS: [(InEnvironment, &str); 4] = [
     (
         InEnvironment::First(STRICT),

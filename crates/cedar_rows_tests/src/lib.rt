@@ -1,5 +1,5 @@
-//! Tests of the worked rows: that what a row expects is taken for nothing else, and what runs of rows write. They stand apart,
-//! since a crate with tests is proved twice.
+//! Tests of the worked rows: no other answer is taken for the one that a row expects, and runs of rows write the right lines.
+//! They stand apart, because a crate with tests is proved twice.
 #![tactic(auto)]
 
 #[cfg(test)]

@@ -1,4 +1,4 @@
-// Each subject has a module.
+// Tests of the worked rows. Each subject has a module.
 mod expectations;
 mod runs;
 mod tables;

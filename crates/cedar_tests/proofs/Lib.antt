@@ -1,0 +1,3 @@
+mod Conclusions
+mod ExpressionPromises
+mod PolicyPromises

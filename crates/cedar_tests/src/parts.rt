@@ -7,26 +7,26 @@ use std::collections::BTreeSet;
 use std::process::Abort;
 use std::rc::RcStr;
 
-/// The value in a box, which is dropped by one call: without it a proof pays for each part.
+/// The value in a box, which one call drops, because a proof pays for each part without the box.
 pub fn boxed<T: Drop>(alloc: Global, value: T) -> Result<Box<T>, AllocError> {
     Ok(Box::new(alloc, value)?)
 }
 
-/// Adds an item to a list. A refused push hands its item back, which is dropped here once and not
-/// at each place.
+/// Adds an item to a list. It is a function, because a refused push hands its item back, and here that is dropped once, not at
+/// each place.
 pub fn add<T: Drop>(list: &mut Vec<T>, item: T) -> Result<(), AllocError> {
     list.push(item)?;
     Ok(())
 }
 
-/// A list of this item alone.
+/// A list of only this item.
 pub fn alone<T: Drop>(alloc: Global, item: T) -> Result<Vec<T>, AllocError> {
     let mut list = Vec::new(alloc);
     list.push(item)?;
     Ok(list)
 }
 
-/// Asserts that a text is the one that is wanted.
+/// Asserts that a text is the wanted one.
 pub fn assert_text(rt: &impl Abort, shown: &str, wanted: &str) {
     assert_eq!(rt; shown, wanted);
 }
@@ -60,7 +60,7 @@ pub fn types(alloc: Global, names: &[&str]) -> Result<BTreeSet<EntityType>, Allo
     Ok(types)
 }
 
-/// The set of the types of these names, of which there is one at least.
+/// The set of the types of these names, of which there must be at least one.
 pub fn lub(alloc: Global, names: &[&str]) -> Result<EntityLUB, AllocError> {
     EntityLUB::from_types(alloc, types(alloc, names)?)?.ok_or(AllocError)
 }

@@ -1,4 +1,4 @@
-// Of the validator: calls that no program makes. Each subject has a module.
+// Tests of the validator: calls that no program makes. Each subject has a module.
 mod levels;
 mod policies;
 mod satisfying_types;

@@ -1,4 +1,4 @@
-// Of the lowest library: calls that no program makes, and texts that no case shows. Each subject has a module.
+// Tests of the lowest library: calls that no program makes, and texts that no case shows. Each subject has a module.
 mod attributes;
 mod capabilities;
 mod choices;

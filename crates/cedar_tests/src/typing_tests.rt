@@ -1,4 +1,4 @@
-// Of typing: calls that no program makes, and nesting. Each subject has a module.
+// Tests of typing: calls that no program makes, and nesting. Each subject has a module.
 mod answers;
 mod checks;
 mod deep_policies;

@@ -30,17 +30,17 @@ pub enum OfTwo {
     Intersect,
 }
 
-/// The question is asked of sets that know tags.
+/// A question about sets that know tags.
 #[derive(Clone, Copy)]
 pub struct OfTags(OfTwo);
 
-/// That the principal has this attribute.
+/// The capability that the principal has this attribute.
 fn has<'a>(alloc: Global, attr: &str) -> Result<Capability<'a>, AllocError> {
     let attr = RcStr::from_str(alloc, attr)?;
     Ok(Capability::new_attribute_owned(Expr::var(Var::Principal), attr))
 }
 
-/// That the principal has these two attributes.
+/// The set of the capabilities that the principal has these two attributes.
 pub fn having<'a>(
     alloc: Global,
     first: &str,
@@ -51,7 +51,7 @@ pub fn having<'a>(
     Ok(set)
 }
 
-/// Asks it of two sets, or of a capability that is to be alone.
+/// Asks the question about two sets, or about a capability for a set of its own.
 fn of_two<'a>(
     alloc: Global,
     trial: Trial<'_>,
@@ -98,7 +98,7 @@ fn add(alloc: Global, trial: Trial<'_>) -> Result<Outcome, AllocError> {
     finish_insertion(alloc, answer, &before, &builder)
 }
 
-/// The outcome of an insertion, after which the set or builder is as it was if memory was refused.
+/// The outcome of an insertion. If memory was refused, the set or builder must be as it was.
 fn finish_insertion<S: Debug>(
     alloc: Global,
     answer: Result<(), AllocError>,
@@ -167,7 +167,7 @@ impl Probe for OfSets {
             OfSets::Build => build(alloc, trial),
             OfSets::Add => add(alloc, trial),
             OfSets::OfTwo(asked) => {
-                // they share one of two attributes
+                // the sets share one of two attributes
                 let sets = (having(alloc, "vip", "nick")?, having(alloc, "nick", "age")?);
                 of_two(alloc, trial, asked, has(alloc, "vip")?, sets)
             }
@@ -177,7 +177,7 @@ impl Probe for OfSets {
 
 impl Probe for OfTags {
     fn run(self, alloc: Global, trial: Trial<'_>) -> Result<Outcome, AllocError> {
-        // of the tag `t` of the principal, and an attribute of each, borrowed and owned
+        // the sets know the tag `t` of the principal, and an attribute of each kind, borrowed and owned
         let (owner, name) = (
             Expr::var(Var::Principal),
             Expr::val(Literal::from_string(alloc, "t")?),
@@ -220,7 +220,7 @@ pub const BASES: [(OfBases, &str); 2] = [
     ),
 ];
 
-/// The same of sets that know tags.
+/// Questions about sets that know tags.
 pub const TAGS: [(OfTags, &str); 4] = [
     (
         OfTags(OfTwo::Singleton),

@@ -11,12 +11,12 @@ use cedar_types::types::request_env::RequestEnv;
 use cedar_typing::typecheck::Typechecker;
 use std::alloc::{AllocError, Global};
 
-/// The environment that a policy is checked in.
+/// The environment in which a policy is checked.
 #[derive(Clone, Copy)]
 pub enum InEnvironment {
     /// The first of the schema, in a mode.
     First(ValidationMode),
-    /// The one of undeclared actions.
+    /// The environment of undeclared actions.
     Undeclared,
 }
 
@@ -61,7 +61,7 @@ pub enum Question {
     RequiredLevel,
 }
 
-/// Asks it of the policy of the text, in Strict.
+/// Asks the question about the policy of the text, in Strict.
 fn ask(alloc: Global, trial: Trial<'_>, asked: Question) -> Result<Outcome, AllocError> {
     let validator = trial.validator;
     let (mode, policy) = (ValidationMode::Strict, policy(alloc, trial.text)?);
@@ -100,7 +100,7 @@ fn ask(alloc: Global, trial: Trial<'_>, asked: Question) -> Result<Outcome, Allo
     }
 }
 
-/// Validates the policy of the text in Strict, where no dereference is allowed.
+/// Validates the policy of the text in Strict, with no dereference allowed.
 fn at_level_0(alloc: Global, trial: Trial<'_>) -> Result<Outcome, AllocError> {
     let validator = trial.validator;
     let (mode, policy) = (ValidationMode::Strict, policy(alloc, trial.text)?);

@@ -1,4 +1,4 @@
-// Copies.
+// Copies of values.
 use crate::calls::lines::{Probe, Trial};
 use crate::outcomes::{Outcome, finish};
 use crate::refusals::refuse;
@@ -32,7 +32,7 @@ pub enum Copied {
     Type,
 }
 
-/// One of each.
+/// An original of each kind.
 #[derive(Debug, Drop)]
 struct Originals {
     expr: Expr,
@@ -114,7 +114,7 @@ impl Probe for Copied {
     }
 }
 
-/// Copies.
+/// The values that are copied, with their lines.
 pub const COPIES: [(Copied, &str); 18] = [
     (Copied::Expr, "Expr::try_clone | If"),
     (Copied::OwnedShape, "ExprShapeOnly::try_clone | Owned"),

@@ -1,4 +1,4 @@
-// The walks over a template's environments, alone and with their checks. A step may take memory.
+// Walks over a template's environments, by themselves and with their checks. A step may take memory.
 use crate::calls::walks::{Steps, attempt_walk, walk_all};
 use crate::pictures::picture;
 use crate::sweep::{ANOTHER_POLICY, Attempt, Call, Question, attempt_question};
@@ -11,7 +11,7 @@ use std::alloc::{AllocError, Global};
 /// The mode of these walks.
 pub const MODE: ValidationMode = ValidationMode::Partial;
 
-/// A template by a schema, and how many environments it has. The checker is one by the same schema, in the mode of these walks.
+/// A template by a schema, and the number of its environments. The checker is by this schema too, in the mode of these walks.
 #[derive(Clone, Copy)]
 pub struct Walk<'a> {
     pub schema: &'a ValidatorSchema,
@@ -20,16 +20,16 @@ pub struct Walk<'a> {
     pub environments: usize,
 }
 
-/// The calls.
+/// The calls of a walk.
 #[derive(Clone, Copy)]
 pub enum OfWalk {
-    /// `ValidatorSchema::linked_request_envs` alone.
+    /// `ValidatorSchema::linked_request_envs` by itself.
     MakesLinked,
-    /// Each step of its answer.
+    /// Each step of the answer of `linked_request_envs`.
     WalksLinked,
-    /// `Typechecker::typecheck_by_request_env` alone.
+    /// `Typechecker::typecheck_by_request_env` by itself.
     MakesChecks,
-    /// Each step of its answer.
+    /// Each step of the answer of `typecheck_by_request_env`.
     WalksChecks,
     /// Each step of `RequestEnvChecks::next_env`.
     WalksNext,
@@ -37,22 +37,22 @@ pub enum OfWalk {
     ChecksOne,
 }
 
-/// This call on this template, which it leaves as it is.
+/// A call on a template, which it leaves as it is.
 #[derive(Clone, Copy)]
 pub struct WalkCall<'a> {
     pub walk: Walk<'a>,
     pub called: OfWalk,
 }
 
-/// Questions for which `ValidatorSchema::linked_request_envs` is called alone.
+/// The question that calls only `ValidatorSchema::linked_request_envs`.
 #[derive(Clone, Copy)]
 struct LinkedMaking<'a>(Walk<'a>);
 
-/// The same of `Typechecker::typecheck_by_request_env`.
+/// The question that calls only `Typechecker::typecheck_by_request_env`.
 #[derive(Clone, Copy)]
 struct ChecksMaking<'a>(Walk<'a>);
 
-/// The same of `RequestEnvChecks::check`.
+/// The question that calls only `RequestEnvChecks::check`.
 #[derive(Clone, Copy)]
 struct OneCheck<'a>(Walk<'a>);
 

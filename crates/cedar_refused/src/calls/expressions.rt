@@ -6,13 +6,13 @@ use crate::samples::texts::{entity_type, expression};
 use cedar_types::base::{AttrChain, BinaryOp, Expr, PatternElem, UnaryOp};
 use std::alloc::{AllocError, Global};
 
-/// Makers of an expression of two.
+/// Makers of an expression of two others.
 #[derive(Clone, Copy)]
 pub enum OfTwo {
     And,
     Or,
     Operator(BinaryOp),
-    /// The maker that is named after this operator.
+    /// The maker that has the name of this operator.
     Maker(BinaryOp),
 }
 
@@ -44,7 +44,7 @@ impl Probe for OfTwo {
     }
 }
 
-/// Makers of an expression of one.
+/// Makers of an expression of one other.
 #[derive(Clone, Copy)]
 pub enum OfOne {
     Not,
@@ -71,7 +71,7 @@ impl Probe for OfOne {
     }
 }
 
-/// Makers of an expression of one and of something else.
+/// Makers of an expression of one other and of further parts.
 #[derive(Clone, Copy)]
 pub enum OfMore {
     If,
@@ -101,7 +101,7 @@ impl Probe for OfMore {
     }
 }
 
-/// Makers of an expression of two.
+/// Makers of an expression of two others.
 pub const TWO_OPERANDS: [(OfTwo, &str); 15] = [
     (OfTwo::And, "Expr::and | And | true"),
     (OfTwo::Or, "Expr::or | Or | true"),
@@ -135,7 +135,7 @@ pub const TWO_OPERANDS: [(OfTwo, &str); 15] = [
     ),
 ];
 
-/// Makers of an expression of one.
+/// Makers of an expression of one other.
 pub const ONE_OPERAND: [(OfOne, &str); 6] = [
     (
         OfOne::Operator(UnaryOp::Not),
@@ -148,7 +148,7 @@ pub const ONE_OPERAND: [(OfOne, &str); 6] = [
     (OfOne::HasAttr, "Expr::has_attr | HasAttr | principal"),
 ];
 
-/// Makers of an expression of one and of something else.
+/// Makers of an expression of one other and of further parts.
 pub const MORE: [(OfMore, &str); 4] = [
     (OfMore::If, "Expr::ite | If | true"),
     (

@@ -1,12 +1,11 @@
-// A call as a line of a table.
+// Calls as the lines of a table.
 use crate::outcomes::Outcome;
 use crate::refusals::NEVER;
 use crate::sweep::{ANOTHER_ANSWER, ANOTHER_LATER, Attempt, Call, attempt_of};
 use cedar_typechecker::rbac::Validator;
 use std::alloc::{AllocError, Global};
 
-/// What one run of a call is given: the validator that it stands on, the text that it is made on, and the number of the
-/// growth that is refused.
+/// The setting of one run of a call: its validator, the text that it is made on, and the number of the growth that is refused.
 #[derive(Clone, Copy)]
 pub struct Trial<'a> {
     pub validator: &'a Validator<'a>,
@@ -16,12 +15,12 @@ pub struct Trial<'a> {
 
 /// A call that is made on the value of a text.
 pub trait Probe: Copy {
-    /// Makes the call while the growth of that number is refused.
+    /// Makes the call while the growth of this number is refused.
     fn run(self, alloc: Global, trial: Trial<'_>) -> Result<Outcome, AllocError>;
 }
 
-/// A line of a table: the name of a call, what its answer shows among other things, and the text that it is made on, with
-/// ` | ` between them. The text may be missing. Before the name of a call that takes no memory on this text stands `- `.
+/// A line of a table: the name of a call, a text that its answer shows, and the text that the call is made on, with ` | `
+/// between them. The last text may be missing. `- ` stands before the name of a call that takes no memory on this text.
 #[derive(Clone, Copy)]
 pub struct Line<'a> {
     pub name: &'a str,

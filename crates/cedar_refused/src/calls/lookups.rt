@@ -54,7 +54,7 @@ fn literal(alloc: Global, trial: Trial<'_>) -> Result<Outcome, AllocError> {
     finish(alloc, found, &entity)
 }
 
-/// Asks for the type of the entities of the type that this id has.
+/// Asks for the type of the entities of this id's type.
 fn reference(alloc: Global, trial: Trial<'_>) -> Result<Outcome, AllocError> {
     let (schema, entity) = (schema_of(alloc, SCHEMA)?, uid(alloc, trial.text)?);
     refuse(alloc, trial.number);
@@ -62,7 +62,7 @@ fn reference(alloc: Global, trial: Trial<'_>) -> Result<Outcome, AllocError> {
     finish(alloc, found, &entity)
 }
 
-/// Asks for the cost of a chain of which each entity is of two types.
+/// Asks for the cost of a chain whose entities are of two types each.
 fn chain_cost(alloc: Global, trial: Trial<'_>) -> Result<Outcome, AllocError> {
     let (schema, root) = (schema_of(alloc, OWNERS)?, cedar_type(alloc, trial.text)?);
     let owner = RcStr::from_str(alloc, "owner")?;

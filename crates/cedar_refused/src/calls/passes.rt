@@ -1,4 +1,4 @@
-// The passes over the names in a policy and over the entities to which its slots are bound, step by step.
+// Passes over the names in a policy and over the entities to which its slots are bound, step by step.
 use crate::calls::walks::{Steps, attempt_walk};
 use crate::pictures::picture;
 use crate::sweep::{ANOTHER_POLICY, Attempt, Call};
@@ -13,7 +13,7 @@ use std::alloc::{AllocError, Global};
 pub enum Pass {
     /// `Template::mentions`.
     Mentions,
-    /// One that answers `LiteralErrors`.
+    /// A pass that answers `LiteralErrors`.
     Literals(OfLiterals),
     /// `Validator::validate_entity_types_in_slots`.
     SlotTypes,
@@ -38,7 +38,7 @@ pub struct PassWalk<'a> {
     pub validator: &'a Validator<'a>,
     pub policy: &'a Policy,
     pub pass: Pass,
-    /// How many names it gives, or errors.
+    /// The number of names or errors that the pass gives.
     pub items: usize,
 }
 

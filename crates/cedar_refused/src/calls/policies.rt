@@ -1,4 +1,4 @@
-// The check of a policy in all of its environments, on sets that hold something before.
+// Checks of a policy in all of its environments, on sets that already hold something.
 use crate::pictures::{members, picture};
 use crate::refusals::{refuse, was_refused};
 use crate::samples::findings::{errors, first_finding, warnings};
@@ -13,11 +13,11 @@ use std::collections::HashSet;
 pub struct WholeCheck<'a> {
     pub checker: &'a Typechecker<'a>,
     pub policy: &'a Template,
-    /// How many members each set holds before.
+    /// The number of members that each set holds before.
     pub held: usize,
-    /// Whether one of these errors is one that the check finds.
+    /// Whether one of the held errors is one that the check finds.
     pub holds_finding: bool,
-    /// How many errors there are afterwards.
+    /// The number of errors afterwards.
     pub errors: usize,
 }
 
@@ -29,7 +29,7 @@ struct Sets {
 }
 
 impl Sets {
-    /// The members of both, as a text.
+    /// The members of both sets, as a text.
     fn show(&self, alloc: Global) -> Result<String, AllocError> {
         let errors = members(alloc, &self.errors)?;
         let warnings = members(alloc, &self.warnings)?;
@@ -48,7 +48,7 @@ impl WholeCheck<'_> {
         Ok(Sets { errors, warnings })
     }
 
-    /// The contents of the sets after a check with ample memory: the policies here are refused, and never apply.
+    /// The contents of the sets after a check with ample memory. All policies here are refused, and never apply.
     fn expect(&self, alloc: Global) -> Result<Option<String>, AllocError> {
         let mut sets = self.hand_in(alloc)?;
         let passes = self.check(alloc, &mut sets)?;
@@ -64,7 +64,8 @@ impl WholeCheck<'_> {
             .typecheck_policy(alloc, self.policy, &mut sets.errors, &mut sets.warnings)
     }
 
-    /// The check while a growth is refused, after which the sets hold this or what they held, and again with ample memory.
+    /// The check while a growth is refused, after which the sets hold `wanted` or their old members, and again with ample
+    /// memory.
     fn check_refused(
         &self,
         alloc: Global,

@@ -18,12 +18,12 @@ pub enum OfEnvironment {
     Context,
 }
 
-/// The environment that is asked, and the question.
+/// The environment, and the question about it.
 #[derive(Clone, Copy)]
 pub enum Asked {
-    /// That of a declared action.
+    /// The environment of a declared action.
     OfDeclared(OfEnvironment),
-    /// That of undeclared actions.
+    /// The environment of undeclared actions.
     OfUndeclared(OfEnvironment),
 }
 
@@ -32,7 +32,7 @@ const BOUND: &str =
     r#"User::"a", Photo::"b" = permit(principal == ?principal, action, resource == ?resource);"#;
 
 impl OfEnvironment {
-    /// Asks it of an environment.
+    /// Asks the question about an environment.
     fn ask<'a>(
         self,
         alloc: Global,

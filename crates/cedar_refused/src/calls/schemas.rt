@@ -8,7 +8,7 @@ use cedar_types::base::{EntityKind, EnumChoices, SchemaError, ValidatorSchema};
 use std::alloc::{AllocError, Global};
 use std::rc::RcStr;
 
-/// Makes the schema of these declarations. The answer is that, or its fault.
+/// Makes the schema of these declarations. The answer is the schema, or its fault.
 fn make_schema(alloc: Global, trial: Trial<'_>) -> Result<Outcome, AllocError> {
     let text = match trial.text {
         "DECLARATIONS" => DECLARATIONS,
@@ -25,7 +25,7 @@ fn make_schema(alloc: Global, trial: Trial<'_>) -> Result<Outcome, AllocError> {
     finish(alloc, made, &())
 }
 
-/// Makes the ids of an enumerated type that has this one alone.
+/// Makes the ids of an enumerated type that has only this one.
 fn make_choices(alloc: Global, trial: Trial<'_>) -> Result<Outcome, AllocError> {
     let id = RcStr::from_str(alloc, trial.text)?;
     let ids = vec![in alloc; id]?;
@@ -53,7 +53,7 @@ pub enum OfMade {
     TagsOfAny,
 }
 
-/// Asks it. The text is that of an action.
+/// Asks the question about the schema. The text is an action's.
 fn of_schema(alloc: Global, trial: Trial<'_>, asked: OfMade) -> Result<Outcome, AllocError> {
     let schema = trial.validator.schema();
     let group = entity_type(alloc, "Group")?;

@@ -31,7 +31,7 @@ fn survey_shown(alloc: Global, survey: &Survey) -> Result<String, AllocError> {
     picture(alloc, &(answers, numbers, survey.errors()))
 }
 
-/// The level errors of the policy of the text where no dereference is allowed. It is surveyed before memory is refused.
+/// The level errors of the policy of the text, with no dereference allowed. The policy is surveyed before memory is refused.
 pub fn level_errors_at_0(alloc: Global, trial: Trial<'_>) -> Result<Outcome, AllocError> {
     let (mode, policy) = (ValidationMode::Strict, policy(alloc, trial.text)?);
     let survey = trial.validator.survey(alloc, &policy.template, mode)?;

@@ -1,4 +1,4 @@
-// Checks that answer a typed tree wherever there is one: of an expression where it stands, and of a condition.
+// Checks whose answer has a typed tree if there is one: of an expression at its place, and of a condition.
 use crate::calls::lines::{Probe, Trial};
 use crate::outcomes::{Outcome, finish};
 use crate::refusals::refuse;
@@ -11,9 +11,9 @@ use std::alloc::{AllocError, Global};
 /// Checks of a policy in the first environment of the schema, in Strict.
 #[derive(Clone, Copy)]
 pub enum OfPolicy {
-    /// Its condition.
+    /// The policy's condition.
     Condition,
-    /// The part of its condition beside the scope, while nothing is known.
+    /// The part of the condition beside the scope, without prior capabilities.
     Rest,
 }
 
@@ -42,7 +42,7 @@ impl Probe for OfPolicy {
     }
 }
 
-/// Checks of conditions and of expressions, by what they show.
+/// Checks of conditions and of expressions, by the texts that they show.
 pub const TREES: [(OfPolicy, &str); 2] = [
     (
         OfPolicy::Condition,

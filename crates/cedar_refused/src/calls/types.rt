@@ -10,7 +10,7 @@ use std::alloc::{AllocError, Global};
 use std::collections::BTreeMap;
 use std::rc::RcStr;
 
-/// The values that are made.
+/// The kinds of values that are made.
 #[derive(Clone, Copy)]
 pub enum TypeMaker {
     Set,

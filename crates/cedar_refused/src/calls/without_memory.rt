@@ -18,7 +18,7 @@ use std::alloc::{AllocError, Global};
 use std::collections::BTreeSet;
 use std::rc::RcStr;
 
-/// The outcomes of calls that answered as they should, or did not.
+/// The outcome of calls: whether they answered as they should, and whether they asked for memory.
 fn outcome(is_as_ever: bool, was_refused: bool) -> &'static str {
     match (is_as_ever, was_refused) {
         (true, false) => TAKES_NONE,
@@ -28,7 +28,7 @@ fn outcome(is_as_ever: bool, was_refused: bool) -> &'static str {
     }
 }
 
-/// The walk over a schema's environments, the links of their slots, and the parts of which they are made.
+/// The walk over a schema's environments, the links of their slots, and the parts of an environment.
 pub fn environments(alloc: Global, schema: &ValidatorSchema) -> Result<&'static str, AllocError> {
     let user = entity_type(alloc, "User")?;
     let link = entity_type(alloc, "User")?;
@@ -95,7 +95,7 @@ fn function(alloc: Global, name: &str) -> Result<ExtensionFunctionType, AllocErr
     })
 }
 
-/// The making of a table of functions, which owns the lists that it is given, and that of one without functions.
+/// The making of a table of functions, which owns its lists, and of a table without functions.
 pub fn tables(alloc: Global) -> Result<&'static str, AllocError> {
     let functions = vec![in alloc; function(alloc, "g")?, function(alloc, "f")?]?;
     let equal = vec![in alloc; function(alloc, "f")?, function(alloc, "f")?]?;
@@ -148,22 +148,22 @@ pub fn chain_cost(alloc: Global, schema: &ValidatorSchema) -> Result<&'static st
     Ok(outcome(is_as_ever, was_refused))
 }
 
-/// Whether that the owner has an attribute is one with the same of an owner and a name of its own.
+/// Whether the borrowed capability of an owner's attribute equals the owned one.
 fn is_one_attribute(owner: &Expr, own: Expr, names: (RcStr, RcStr)) -> bool {
     Capability::new_attribute(owner, names.0) == Capability::new_attribute_owned(own, names.1)
 }
 
-/// Whether that the owner has a tag is one with the same of a name of its own.
+/// Whether the capability of an owner's tag with a borrowed name equals the one with an owned name.
 fn is_one_tag<'a>(owner: &'a Expr, name: &'a Expr, own: Expr) -> bool {
     Capability::new_borrowed_tag(owner, name) == Capability::new_owned_tag(owner, own)
 }
 
-/// Whether the set has it that the owner has the attribute.
+/// Whether the set has the capability of the owner's attribute.
 fn is_known(set: &CapabilitySet<'_>, owner: Expr, name: RcStr) -> bool {
     set.contains(&Capability::new_attribute_owned(owner, name))
 }
 
-/// Whether a set of this owner's attribute has it that it has the tag.
+/// Whether a set with this owner's attribute has the capability of the tag too.
 fn is_taken_for_a_tag(
     alloc: Global,
     owner: &Expr,

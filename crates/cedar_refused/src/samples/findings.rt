@@ -14,7 +14,7 @@ fn place(number: usize) -> Option<Loc> {
     Some(Loc { start, end })
 }
 
-/// So many findings of another policy, each made of a place of its own.
+/// This many findings of another policy, each made of a place of its own.
 fn findings<T: Eq + Hash + Drop, F: Fn(Option<Loc>, PolicyID) -> T>(
     alloc: Global,
     count: usize,
@@ -30,12 +30,12 @@ fn findings<T: Eq + Hash + Drop, F: Fn(Option<Loc>, PolicyID) -> T>(
     Ok(findings)
 }
 
-/// So many errors of another policy.
+/// This many errors of another policy.
 pub fn errors(alloc: Global, count: usize) -> Result<HashSet<ValidationError>, AllocError> {
     findings(alloc, count, ValidationError::empty_set_forbidden)
 }
 
-/// So many warnings of another policy.
+/// This many warnings of another policy.
 pub fn warnings(alloc: Global, count: usize) -> Result<HashSet<ValidationWarning>, AllocError> {
     findings(alloc, count, ValidationWarning::impossible_policy)
 }

@@ -1,4 +1,4 @@
-// The values on which the calls are made, read from texts.
+// Values on which the calls are made, read from texts.
 use cedar_reading::{ReadError, condition, schema, type_alone, uid_alone, whole_policy};
 use cedar_types::base::{
     CedarType, EntityLUB, EntityType, EntityUID, Expr, Name, Policy, SlotEnv, SlotId, Template,
@@ -24,35 +24,35 @@ action all;
 action some in [all];
 "#;
 
-/// Each form of constraint, and names that the schema does not have.
+/// A policy with each form of constraint, and with names that the schema does not declare.
 pub const NAMED: &str = r#"permit(principal in N::User::"a",
     action in [Action::"view", N::Action::"a"], resource is N::Gone in Photo::"a")
     when { [N::User::"a", N::Action::"a", Color::"blue", Color::"red", Color::"blue"].isEmpty()
     || principal is N::Gone };"#;
 
-/// A slot that is bound to a user, by each of two actions linked in two ways, as users may be in users.
+/// A policy with its slot bound to a user. Each of its two actions is linked in two ways, because users may be in users.
 pub const KNOWN: &str =
     r#"User::"a" = permit(principal in ?principal, action, resource) when { principal.vip };"#;
 
-/// Both slots bound to entities of types that the schema does not have.
+/// A policy with both slots bound to entities of undeclared types.
 pub const UNKNOWN: &str =
     r#"N::User::"a", N::Photo::"a" = permit(principal in ?principal, action, resource in ?resource);"#;
 
-/// One finding, and the policy never applies.
+/// A policy with one finding, which never applies.
 pub const ONE: &str = r#"permit(principal, action, resource) when { (1 + "a") == 2 && false };"#;
 
-/// A finding for each sum, and the policy never applies.
+/// A policy with a finding for each sum, which never applies.
 pub const MANY: &str = r#"permit(principal, action, resource) when { [
     1 + "a", 1 + "b", 1 + "c", 1 + "d", 1 + "e", 1 + "f", 1 + "g", 1 + "h", 1 + "i"
     ].isEmpty() && false };"#;
 
-/// How many findings that policy has: more than a set of eight has room for.
+/// The number of findings of `MANY`: more than a set of eight has room for.
 pub const SUMS: usize = 9;
 
-/// Users, whom photos own, and photos, which users own: so the owner of either is either.
+/// Users, whom photos own, and photos, which users own: so the owner of either type is of both.
 pub const OWNERS: &str = "entity User { owner: Photo }; entity Photo { owner: User };";
 
-/// The value that was read. A text here that cannot be read ends the run, as want of memory does.
+/// The value that was read. A text that cannot be read ends the run, as refused memory does.
 fn read<T>(answer: Result<T, ReadError>) -> Result<T, AllocError> {
     match answer {
         Ok(read) => Ok(read),
@@ -116,8 +116,8 @@ fn text_of(word: &str) -> &str {
     }
 }
 
-/// The policy of a text, before which what its slots are bound to may stand: `User::"a", Photo::"b" = permit(..);`. It may
-/// be a condition alone.
+/// The policy of a text. The entities that its slots are bound to may stand before it: `User::"a", Photo::"b" = permit(..);`.
+/// The text may be only a condition.
 pub fn policy(alloc: Global, text: &str) -> Result<Policy, AllocError> {
     let text = text_of(text);
     let (bound, text) = text.split_once(" = ").unwrap_or(("", text));
@@ -139,7 +139,7 @@ fn template_when(alloc: Global, text: &str) -> Result<Template, AllocError> {
     template(alloc, text.as_str())
 }
 
-/// Binds a slot to the entity of this text, where it has one.
+/// Binds a slot to the entity of this text, if the text is not empty.
 fn bind(alloc: Global, values: &mut SlotEnv, slot: SlotId, text: &str) -> Result<(), AllocError> {
     if !text.is_empty() {
         drop(values.insert(slot, uid(alloc, text)?)?);

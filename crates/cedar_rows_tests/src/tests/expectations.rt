@@ -1,4 +1,4 @@
-// Whether the answer of a step is taken for the one that it expects, and for nothing else.
+// Expected answers of steps: the right answer is taken for the expected one, and no other is.
 use crate::tests::tables::{x1, x2};
 use crate::tests::wrong_expectations::{ERRORS, NAMES, OUTCOMES, UNREAD, WARNINGS};
 use crate::tests::wrong_levels::{LEVELS, OUTCOMES_AT_LEVELS, UNREAD_LEVELS};
@@ -7,7 +7,7 @@ use std::alloc::{AllocError, Global};
 use std::process::Abort;
 use std::test::Fail;
 
-/// Findings in another order than that of their bytes, and steps of which no row has the like.
+/// Findings in another order than that of their bytes, and steps unlike those of any row.
 const EXPECTED: &str = r#"
 ? S1 Strict check: "a" < "b"
 Fail errors=2
@@ -60,7 +60,7 @@ fn report_of(alloc: Global, text: &str) -> Result<Report, Fail> {
     Ok(Steps(text, &[]).report(alloc, &x1(alloc)?, &x2(alloc)?)?)
 }
 
-/// The right step that stands before changes: the step of a row where only its question does.
+/// The right step that stands before changes. If only its question stands there, it is the step of a row with that question.
 fn right_step(rows: &[NamedRow<Steps<'static>>], text: &'static str) -> &'static str {
     let (right, _) = text.split_once("\n~ ").unwrap_or((text, ""));
     for row in rows {
@@ -74,8 +74,8 @@ fn right_step(rows: &[NamedRow<Steps<'static>>], text: &'static str) -> &'static
     right
 }
 
-/// The step with one change, which makes wrong what it expects: `old => new` in it, `=> new` in its place, `the last => new` in
-/// the place of its last finding, that one twice or left out, or `nothing` expected.
+/// The step with one change that makes its expectation wrong: `old => new` in it, `=> new` in its place, `the last => new` in
+/// place of its last finding, the last finding twice or left out, or `nothing` expected.
 fn change_step(alloc: Global, step: &str, change: &str) -> Result<String, AllocError> {
     let (question, answer) = step.split_once('\n').unwrap_or((step, ""));
     let (before, last) = step.rsplit_once("\n! ").unwrap_or((step, ""));
@@ -116,7 +116,7 @@ fn what_is_expected_is_met(rt: HostRuntime) -> Result<(), Fail> {
     Ok(())
 }
 
-/// The texts of changes, and how many wrong steps each has.
+/// The texts of changes, and the number of wrong steps in each.
 const CHANGED: [(&str, usize); 6] = [
     (OUTCOMES, 17),
     (ERRORS, 27),
@@ -157,7 +157,7 @@ fn other_findings_are_not_taken_for_it(rt: HostRuntime) -> Result<(), Fail> {
     Ok(())
 }
 
-/// That a step is not met, and that its outcome says so where it is not read.
+/// Checks that a step is not met, and that its outcome tells so unless the step is not read.
 fn check_outcome(rt: &impl Abort, alloc: Global, step: &str, is_read: bool) -> Result<(), Fail> {
     let report = report_of(alloc, step)?;
     let outcome = report.outcomes.as_slice().join(alloc, "; ")?;
@@ -181,7 +181,7 @@ fn other_outcomes_are_not_taken_for_it(rt: HostRuntime) -> Result<(), Fail> {
     Ok(())
 }
 
-/// A step whose answer is the expected one, and one whose answer is not, in both orders.
+/// A step with the expected answer, and one with another, in both orders.
 const ONE_OF_TWO: [(&str, &str); 2] = [
     (
         "S1 Strict check: true\nSuccess\n? S1 Strict check: false\nSuccess",
@@ -206,7 +206,7 @@ fn each_step_of_a_row_counts(rt: HostRuntime) -> Result<(), Fail> {
     Ok(())
 }
 
-/// Whether a step is about a set of errors, as a level run is where no name is unknown.
+/// Whether a step is about a set of errors, as a level run is if no name is unknown.
 fn is_of_set(step: &str) -> bool {
     let (line, _) = step.split_once('\n').unwrap_or((step, ""));
     line.contains(" policy: ") || line.contains(" level ")
@@ -222,7 +222,7 @@ fn repeats_finding(step: &str) -> bool {
     false
 }
 
-/// In a list two errors at two parts of one text are two in any case.
+/// No step about a set has two errors at one text. In a list, two errors at two parts of one text are two in any case.
 #[test]
 fn no_set_has_two_errors_at_one_text(rt: HostRuntime) -> Result<(), Fail> {
     for row in &WORKED {

@@ -1,4 +1,4 @@
-// The frame, over sample rows and over writers in memory.
+// Runs of the frame, over sample rows and over writers in memory.
 use crate::tests::tables::{x1, x2};
 use cedar_rows::rows::{NamedRow, Report, Row};
 use cedar_rows::run::{run, run_among};
@@ -185,7 +185,7 @@ fn sample_answer(alloc: Global, words: &[&str]) -> Result<Answer, AllocError> {
     Ok(Answer { status, out, err })
 }
 
-/// That the answer has this status and output, and that the usage is beside it with status two alone.
+/// Checks that the answer has this status and output, and that the usage stands beside it only with status two.
 fn check(rt: &impl Abort, words: &[&str], answer: Answer, status: u8, out: &[u8]) {
     let err = if status == 2 { USAGE } else { b"" };
     assert_eq!(rt; answer.status, status, "{words:?}");

@@ -1,6 +1,6 @@
-// Changes of right steps, each of which makes an expectation wrong. But for `OUTCOMES` and `UNREAD`, outcomes are right.
+// Changes of right steps, each of which makes an expectation wrong. Except in `OUTCOMES` and `UNREAD`, outcomes are right.
 
-/// The outcome is another; the findings are right.
+/// Changes of the outcome, beside right findings.
 pub const OUTCOMES: &str = r#"
 ? S1 Strict check: 1 == "a"
 ~ => Success
@@ -31,7 +31,7 @@ for policy `policy0`, unable to find an applicable action given the policy scope
 ~ Success; Success => Success
 "#;
 
-/// An error is missing, or one too many, or of another kind, place or text.
+/// Changes of errors: one is missing or too many, or has another kind, place or text.
 pub const ERRORS: &str = r#"
 ? S2 Strict check: principal.vip
 ~ without the last
@@ -72,7 +72,7 @@ for policy `policy0`, unexpected type: expected `Long` but saw `ipaddr`
 for policy `policy0`, undefined extension function `ip`
 "#;
 
-/// The finding of a pass is another.
+/// Changes of the finding of a pass.
 pub const NAMES: &str = r#"
 ? S1 entity types: (Unk::"a" < 1) && false
 ~ without the last
@@ -99,7 +99,7 @@ for policy `0`, unrecognized entity type `User`
 ~ `0` => `policy0`
 "#;
 
-/// A warning or an environment is another, or missing, or one too many.
+/// Changes of a warning or an environment: one is different, missing or too many.
 pub const WARNINGS: &str = r#"
 ? S3 applies: permit(principal in admins::"a", action, resource)
 ~ => applies
@@ -125,7 +125,7 @@ for policy `policy0`, policy is impossible: it evaluates to false for every vali
 ~ the last => User Action::"view" Photo, linked to User and Photo: Success
 "#;
 
-/// Something cannot be read, or is refused.
+/// Steps that cannot be read, or are refused.
 pub const UNREAD: &str = r#"
 ? S9 Strict check: true
 Success

@@ -1,6 +1,6 @@
-// Steps on levels and on the costs of chains whose answers are not the expected ones, as changes of right ones.
+// Steps on levels and on the costs of chains with wrong expectations, as changes of right ones.
 
-/// The outcome is another; the findings are right.
+/// Changes of the outcome, beside right findings.
 pub const OUTCOMES_AT_LEVELS: &str = r#"
 ? S1 Strict level 0: {foo: principal}.foo is User
 ~ errors=0 => errors=1
@@ -36,7 +36,7 @@ pub const OUTCOMES_AT_LEVELS: &str = r#"
 ~ => no
 "#;
 
-/// A finding of a level run is missing, or one too many, or of another kind, place or text.
+/// Changes of the findings of a level run: one is missing or too many, or has another kind, place or text.
 pub const LEVELS: &str = r#"
 ? S1 Strict level 0: principal.bool
 ~ without the last
@@ -64,7 +64,7 @@ for policy `policy0`, policy is impossible: it evaluates to false for every vali
 for policy `policy0`, this policy requires level 1, which exceeds the maximum allowed level (0)
 "#;
 
-/// Something cannot be read.
+/// Steps that cannot be read.
 pub const UNREAD_LEVELS: &str = r#"
 ? S1 Strict level 4294967296: principal.bool
 errors=0 warnings=0

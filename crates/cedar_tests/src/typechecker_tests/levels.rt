@@ -1,4 +1,4 @@
-// The validation of a policy with levels, and the level that it requires.
+// Validation of a policy with levels, and the level that it requires.
 use crate::parts::uid;
 use crate::typechecker_tests::policies::permit;
 use crate::typechecker_tests::schemas::users_and_photos;
@@ -40,7 +40,7 @@ enum Written {
     Nested,
     /// `permit(principal, action, resource) when { principal has user };`, an extended `has`.
     HasUser,
-    /// The same of `principal.user has user`.
+    /// `permit(principal, action, resource) when { principal.user has user };`, an extended `has`.
     UserHasUser,
 }
 
@@ -82,7 +82,7 @@ fn policy(alloc: Global, written: Written) -> Result<Template, AllocError> {
     permit(alloc, principal, ActionConstraint::any(), condition)
 }
 
-/// Whether this is found, and shown as this text.
+/// Whether this finding is there, and shown as this text.
 fn is_shown<F: fmt::Display + Drop>(
     alloc: Global,
     found: Option<F>,
@@ -118,7 +118,7 @@ fn are_warnings(
     Ok(warnings.next().is_none() && warnings.next().is_none())
 }
 
-/// A policy, a mode and a maximum, and the errors and the warnings there.
+/// A policy, a mode and a maximum, with the errors and the warnings.
 type Case = (
     Written,
     ValidationMode,

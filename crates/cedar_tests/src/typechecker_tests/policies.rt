@@ -1,4 +1,4 @@
-// The validation of a policy without levels.
+// Validation of a policy without levels.
 use crate::parts::uid;
 use crate::typechecker_tests::schemas::users_and_photos;
 use cedar_typechecker::base::{

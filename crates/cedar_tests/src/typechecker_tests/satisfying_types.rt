@@ -1,4 +1,4 @@
-// The types that a constraint on the resource admits.
+// Types that a constraint on the resource admits.
 use crate::parts::{entity_type, uid};
 use crate::typechecker_tests::schemas::users_and_files;
 use cedar_typechecker::base::{EntityType, ExtensionSchemas, ResourceConstraint};

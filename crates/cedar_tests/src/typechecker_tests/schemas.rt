@@ -10,7 +10,7 @@ use std::collections::BTreeSet;
 use std::rc::Rc;
 use std::test::Fail;
 
-/// A type of whose entities nothing is known but that those of these types may be in them.
+/// An external type, of which only the descendants are known.
 fn external(
     alloc: Global,
     name: &str,
@@ -45,7 +45,7 @@ pub fn users_and_files(alloc: Global) -> Result<ValidatorSchema, Fail> {
     Ok(ValidatorSchema::new(alloc, types, vec![in alloc; read(alloc)?]?)?)
 }
 
-/// A type of whose entities each has these attributes, and no tags.
+/// A type whose entities have these attributes, and no tags.
 fn standard(
     alloc: Global,
     name: &str,
@@ -89,7 +89,7 @@ fn users(alloc: Global) -> Result<ValidatorEntityType, AllocError> {
     standard(alloc, "User", Attributes::from_list(alloc, of_users)?)
 }
 
-/// A type of whose entities each has no attribute.
+/// A type whose entities have no attribute.
 fn bare(alloc: Global, name: &str) -> Result<ValidatorEntityType, AllocError> {
     standard(alloc, name, Attributes::from_list(alloc, Vec::new(alloc))?)
 }
@@ -109,4 +109,11 @@ pub fn users_and_robots(alloc: Global) -> Result<ValidatorSchema, Fail> {
         actions.push(on_photos(alloc, name, &["User", "Robot"])?)?;
     }
     Ok(ValidatorSchema::new(alloc, types, actions)?)
+}
+
+/// Users who view photos, and the external action `read`.
+pub fn users_and_external_action(alloc: Global) -> Result<ValidatorSchema, Fail> {
+    let types = vec![in alloc; users(alloc)?, bare(alloc, "Photo")?]?;
+    let view = on_photos(alloc, "view", &["User"])?;
+    Ok(ValidatorSchema::new(alloc, types, vec![in alloc; view, read(alloc)?]?)?)
 }

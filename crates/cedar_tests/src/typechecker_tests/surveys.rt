@@ -1,10 +1,12 @@
-// The survey of a policy.
+// Surveys of a policy.
 use crate::parts::{entity_type, uid};
 use crate::typechecker_tests::policies::permit;
-use crate::typechecker_tests::schemas::{users_and_photos, users_and_robots};
+use crate::typechecker_tests::schemas::{
+    users_and_external_action, users_and_photos, users_and_robots,
+};
 use cedar_typechecker::base::{
     ActionConstraint, EntityDerefLevel, Expr, ExtensionSchemas, PrincipalConstraint, RequestType,
-    Template, ValidationMode, Var,
+    Template, ValidationMode, ValidatorSchema, Var,
 };
 use cedar_typechecker::rbac::Validator;
 use cedar_typechecker::survey::Survey;
@@ -27,7 +29,7 @@ fn survey(alloc: Global, first: &str, second: &str) -> Result<Survey, Fail> {
     Ok(validator.survey(alloc, &policy, ValidationMode::Strict)?)
 }
 
-/// That the policy passes or not, and may apply, in one environment.
+/// Checks whether the policy passes, and that it may apply, in one environment.
 fn applies_once(rt: &impl Abort, survey: &Survey, passes: bool) {
     assert_eq!(rt; survey.passes(), passes);
     assert_eq!(rt; survey.is_impossible(), false);
@@ -70,16 +72,29 @@ fn an_error_has_its_environments(rt: HostRuntime) -> Result<(), Fail> {
     Ok(())
 }
 
-/// `permit(principal in User::"alice", action == Action::"ACTION", resource) when { principal.bool };`, surveyed where users and
-/// robots view, edit and print.
-fn survey_of_action(alloc: Global, action: &str) -> Result<Survey, Fail> {
+/// `permit(PRINCIPAL, action == Action::"ACTION", resource) when { principal.bool };`, surveyed by a schema.
+fn survey_about(
+    alloc: Global,
+    schema: ValidatorSchema,
+    principal: PrincipalConstraint,
+    action: &str,
+) -> Result<Survey, Fail> {
     let extensions = ExtensionSchemas::default(alloc);
-    let validator = Validator::new(users_and_robots(alloc)?, &extensions);
-    let alice = uid(alloc, "User", "alice")?;
+    let validator = Validator::new(schema, &extensions);
     let action = ActionConstraint::is_eq(uid(alloc, "Action", action)?);
     let condition = Expr::get_attr(alloc, Expr::var(Var::Principal), "bool")?;
-    let policy = permit(alloc, PrincipalConstraint::is_in(alice), action, condition)?;
+    let policy = permit(alloc, principal, action, condition)?;
     Ok(validator.survey(alloc, &policy, ValidationMode::Strict)?)
+}
+
+/// The constraint `principal in User::"alice"`.
+fn in_alice(alloc: Global) -> Result<PrincipalConstraint, AllocError> {
+    Ok(PrincipalConstraint::is_in(uid(alloc, "User", "alice")?))
+}
+
+/// The same of principals in alice, where users and robots view, edit and print.
+fn survey_of_action(alloc: Global, action: &str) -> Result<Survey, Fail> {
+    survey_about(alloc, users_and_robots(alloc)?, in_alice(alloc)?, action)
 }
 
 #[test]
@@ -96,5 +111,37 @@ fn actions_that_the_scope_leaves_out_count(rt: HostRuntime) -> Result<(), Fail> 
     assert_eq!(rt; unknown.applicable_environments(), 0);
     assert_eq!(rt; unknown.level_errors(alloc, 0)?.len(), 1);
     assert_eq!(rt; unknown.required_level(), Some(EntityDerefLevel::from(1)));
+    Ok(())
+}
+
+#[test]
+fn an_external_action_has_no_environment(rt: HostRuntime) -> Result<(), Fail> {
+    let alloc = rt.alloc();
+    let read = survey_about(
+        alloc,
+        users_and_external_action(alloc)?,
+        PrincipalConstraint::any(),
+        "read",
+    )?;
+    assert_eq!(rt; read.passes(), true);
+    assert_eq!(rt; read.is_impossible(), true);
+    assert_eq!(rt; read.applicable_environments(), 0);
+    assert_eq!(rt; read.required_level(), Some(EntityDerefLevel::from(0)));
+    let within = survey_about(
+        alloc,
+        users_and_external_action(alloc)?,
+        in_alice(alloc)?,
+        "read",
+    )?;
+    assert_eq!(rt; within.is_impossible(), true);
+    assert_eq!(rt; within.required_level(), Some(EntityDerefLevel::from(1)));
+    let view = survey_about(
+        alloc,
+        users_and_external_action(alloc)?,
+        PrincipalConstraint::any(),
+        "view",
+    )?;
+    applies_once(&rt, &view, true);
+    assert_eq!(rt; view.required_level(), Some(EntityDerefLevel::from(1)));
     Ok(())
 }

@@ -1,4 +1,4 @@
-// The attributes of a type, in a schema.
+// Attributes of a type, in a schema.
 use crate::parts::{entity, entity_type};
 use cedar_types::base::{
     AttributeType, Attributes, CedarType, StandardValidatorEntityType, ValidatorEntityType,
@@ -8,7 +8,7 @@ use std::alloc::{AllocError, Global};
 use std::collections::BTreeSet;
 use std::test::Fail;
 
-/// A type of whose entities each has these attributes, and no tags.
+/// A type whose entities have these attributes, and no tags.
 fn standard(
     alloc: Global,
     name: &str,

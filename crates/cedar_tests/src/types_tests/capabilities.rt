@@ -15,7 +15,7 @@ fn are_one_shape<'a>(here: &ExprShapeOnly<'a>, there: &ExprShapeOnly<'a>) -> boo
     *here == *there && matches!(here.partial_cmp(there), Some(Ordering::Equal))
 }
 
-/// Whether two are two, by equality and by order.
+/// Whether two are different shapes, by equality and by order.
 fn are_two_shapes<'a>(here: &ExprShapeOnly<'a>, other: &ExprShapeOnly<'a>) -> bool {
     *here != *other && here.cmp(other) == other.cmp(here).reverse()
 }
@@ -42,12 +42,12 @@ fn shapes_have_no_places(rt: HostRuntime) -> Result<(), Fail> {
     Ok(())
 }
 
-/// Whether the copy is the same shape, stands at the second place, and has that of `here`.
+/// Whether the copy has the shape of the original and of `here`, and stands at the second place.
 fn is_copy<'a>(copy: &ExprShapeOnly<'a>, there: &ExprShapeOnly<'a>, here: &Expr) -> bool {
     *copy == *there && copy.expr().loc == place(2) && here.has_shape_of(copy.expr())
 }
 
-/// Whether a copy of the principal's shape at the second place is one.
+/// Whether a copy of the principal's shape keeps the shape and the second place.
 fn keeps_its_place(alloc: Global, here: &Expr) -> Result<bool, AllocError> {
     let there = ExprShapeOnly::Owned(variable(2, Var::Principal));
     let copy = there.try_clone(alloc)?;
@@ -60,13 +60,13 @@ fn a_copied_shape_keeps_the_place_of_its_expression(rt: HostRuntime) -> Result<(
     Ok(())
 }
 
-/// That it has the attribute `x`.
+/// The capability that `base` has the attribute `x`.
 fn attribute<'a>(alloc: Global, base: &'a Expr) -> Result<Box<Capability<'a>>, AllocError> {
     let name = text(alloc, "x")?;
     boxed(alloc, Capability::new_attribute(base, name))
 }
 
-/// That it has the tag `x`.
+/// The capability that `base` has the tag `x`.
 fn tag<'a>(alloc: Global, base: &'a Expr) -> Result<Box<Capability<'a>>, AllocError> {
     let name = Expr::val(Literal::from_string(alloc, "x")?);
     boxed(alloc, Capability::new_owned_tag(base, name))

@@ -1,4 +1,4 @@
-// The ids of an enumerated type: their order, repeats, and which are among them.
+// Ids of an enumerated type: their order, repeats, and members.
 use cedar_types::base::EnumChoices;
 use std::alloc::{AllocError, Global};
 use std::rc::RcStr;

@@ -1,4 +1,4 @@
-// Sets of capabilities, and sets of the same whose digests all collide: the same calls answer alike.
+// Sets of capabilities, and such sets whose digests all collide: equal calls have equal answers.
 ghost use Rattle.std.specs.Prelude.{◌≡◌};
 
 use crate::parts::{add, text};
@@ -16,7 +16,7 @@ enum Known<'a> {
     Tag(&'a ExprShapeOnly<'a>),
 }
 
-/// A capability but for its digest, which is 7 whatever its shape.
+/// A capability in all but its digest, which is 7 whatever its shape.
 #[derive(Clone, Copy, PartialEq, Eq, PartialOrd, Ord)]
 struct Seven<'a> {
     digest: u64,
@@ -97,7 +97,7 @@ fn tell_each<T: Entry + Drop>(
     tell(told, all, &left.try_clone(alloc)?)
 }
 
-/// Adds the same of the sets of these picks.
+/// Adds these answers for the sets of these picks.
 fn tell_picked<T: Entry + Drop>(
     alloc: Global,
     told: &mut Vec<bool>,
@@ -109,7 +109,7 @@ fn tell_picked<T: Entry + Drop>(
     tell_each(alloc, told, all, (&left, &right))
 }
 
-/// Whether all that is told of the sets of these picks is this.
+/// Whether these are all answers for the sets of these picks.
 fn is_told<T: Entry + Drop>(
     alloc: Global,
     all: &Vec<T>,
@@ -121,7 +121,7 @@ fn is_told<T: Entry + Drop>(
     Ok(told == *wanted)
 }
 
-/// The sets that these have to be.
+/// The answers that the sets must give.
 fn expected_answers(alloc: Global, left: u32, right: u32) -> Result<Vec<bool>, AllocError> {
     let mut answers = Vec::new(alloc);
     for picked in &[left, left | right, left & right, left] {
@@ -132,7 +132,7 @@ fn expected_answers(alloc: Global, left: u32, right: u32) -> Result<Vec<bool>, A
     Ok(answers)
 }
 
-/// Adds that this expression has the attribute.
+/// Adds the capability that this expression has the attribute.
 fn add_attribute<'a>(
     all: &mut Vec<Capability<'a>>,
     owner: &'a Expr,
@@ -155,7 +155,7 @@ fn add_capabilities<'a>(
     add(all, Capability::new_borrowed_tag(resource, principal))
 }
 
-/// Adds the same with one digest.
+/// Adds the five capabilities with one digest.
 fn add_sevens<'a>(
     all: &mut Vec<Seven<'a>>,
     principal: &'a ExprShapeOnly<'a>,
@@ -168,7 +168,7 @@ fn add_sevens<'a>(
     add(all, Seven::of(resource, Known::Tag(principal)))
 }
 
-/// Whether both give the right answers about the sets of these picks.
+/// Whether both kinds of entries give the right answers for the sets of these picks.
 fn answer_alike<T: Entry + Drop, U: Entry + Drop>(
     alloc: Global,
     all: &Vec<T>,
@@ -181,7 +181,7 @@ fn answer_alike<T: Entry + Drop, U: Entry + Drop>(
     Ok(is_told(alloc, colliding, (left, right), &wanted)? && is_so)
 }
 
-/// Whether they do so of all ways to pick two sets of the five.
+/// Whether both kinds of entries do so for all ways to pick two sets of the five.
 fn all_answer_alike<T: Entry + Drop, U: Entry + Drop>(
     alloc: Global,
     all: &Vec<T>,
@@ -194,7 +194,7 @@ fn all_answer_alike<T: Entry + Drop, U: Entry + Drop>(
     Ok(is_so)
 }
 
-/// The same of the capabilities of these two, and of those with one digest.
+/// Whether the capabilities of these two expressions, and those with one digest, give the right answers.
 fn capabilities_answer_alike<'a>(
     alloc: Global,
     (principal, resource): (&'a Expr, &'a Expr),

@@ -11,7 +11,7 @@ use std::alloc::AllocError;
 use std::rc::RcStr;
 use std::test::Fail;
 
-/// Whether it has the attribute, and this is the same as asking for it anew.
+/// Whether the expression has the attribute. The answer must be as if it were asked anew.
 fn has_as_new(asked: &mut DigestedBase<'_>, attr: &RcStr) -> Result<bool, AllocError>
     ensures { expr_in asked.new ≡ expr_in asked.old }
 {
@@ -19,8 +19,8 @@ fn has_as_new(asked: &mut DigestedBase<'_>, attr: &RcStr) -> Result<bool, AllocE
     Ok(found == Capability::new_attribute(asked.expr(), attr.clone()?))
 }
 
-/// Whether `whole`, which is the access to `attr` of `base`, has the attribute as if it were asked by itself: where its base was
-/// asked before, and where it was not.
+/// Whether `whole`, which is the access to `attr` of `base`, has the attribute as if it were asked by itself, with its base
+/// asked before or not.
 fn is_asked_alike(base: &Expr, whole: &Expr, attr: &RcStr) -> Result<bool, AllocError>
     requires { shape whole.now ≡ got (shape base.now) (text_of attr.now) }
 {

@@ -1,4 +1,4 @@
-// The texts of errors that no case shows.
+// Texts of errors that no case shows.
 use crate::parts::{assert_text, entity_type, place, policy};
 use cedar_types::base::{EntityDerefLevel, SchemaError, ValidationError};
 use std::alloc::{AllocError, Global};

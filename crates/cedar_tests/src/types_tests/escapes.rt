@@ -1,4 +1,4 @@
-// Texts of strangers, as they are shown to people.
+// Texts by strangers, as they are shown to people.
 use crate::parts::{assert_text, place, policy, text};
 use cedar_types::base::{CedarType, Escaped, OneLine, ValidationError};
 use std::alloc::{AllocError, Global};
@@ -15,7 +15,7 @@ fn a_forged_name_stays_in_its_quotes(rt: HostRuntime) -> Result<(), Fail> {
     Ok(())
 }
 
-/// That there is no such attribute, with its name as it is.
+/// The error that there is no such attribute, with its name as it is.
 fn forge(alloc: Global) -> Result<String, AllocError> {
     let attr = text(alloc, FORGED)?;
     let id = policy(alloc)?;
@@ -24,7 +24,7 @@ fn forge(alloc: Global) -> Result<String, AllocError> {
     )
 }
 
-/// The same in one line.
+/// The error on one line.
 fn forged_line(alloc: Global) -> Result<String, AllocError> {
     let text = forge(alloc)?;
     format!(in alloc; "{}", OneLine(text.as_str()))

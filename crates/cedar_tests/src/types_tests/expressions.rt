@@ -1,4 +1,4 @@
-// The makers of expressions that no program calls.
+// Makers of expressions that no program calls.
 use cedar_types::base::{Expr, UnaryOp, Var};
 use std::alloc::{AllocError, Global};
 use std::test::Fail;

@@ -1,4 +1,4 @@
-// The faults of tables of extension functions.
+// Faults of tables of extension functions.
 use crate::parts::add;
 use cedar_types::base::{
     CedarType, ExtensionFunctionType, ExtensionSchemas, ExtensionTableError, Name,
@@ -19,7 +19,7 @@ enum Returns {
     SetsOfLongs,
 }
 
-/// Which arguments a function takes.
+/// The arguments that a function takes.
 #[derive(Clone, Copy)]
 enum Takes {
     Nothing,
@@ -40,7 +40,7 @@ const GOOD: &[Described] = &[
     Described("datetime", Takes::One, Returns::Bool),
 ];
 
-/// Functions that are added to those, and the fault that the table has then.
+/// Functions that are added to those, and the fault of the table then.
 const FAULTS: &[(&[Described], Option<ExtensionTableError>)] = &[
     (&[], None),
     (

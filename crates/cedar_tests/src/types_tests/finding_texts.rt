@@ -1,4 +1,4 @@
-// The messages of each error and each warning about texts, odd ones too.
+// Messages of each error and each warning about texts, odd ones too.
 use crate::types_tests::findings::{KINDS, PLAIN, application_warning, impossible};
 use crate::types_tests::kinds::{Fields, Kind, error};
 use cedar_types::base::{Message, ValidationWarning};
@@ -18,7 +18,7 @@ const ODD: [&str; 8] = [
     "x` is well\nfor policy `z`, y",
 ];
 
-/// The message about fields: each text as it is, save that in an id a quote and a backslash stand behind a backslash.
+/// The message about fields: each text as it is, but in an id a quote and a backslash get a backslash before them.
 fn expected_message(alloc: Global, text: &str, fields: Fields<'_>) -> Result<String, AllocError> {
     let id = fields.second.replace(alloc, '\\', "\\\\")?;
     let id = id.replace(alloc, '"', "\\\"")?;
@@ -27,7 +27,7 @@ fn expected_message(alloc: Global, text: &str, fields: Fields<'_>) -> Result<Str
     message.replace(alloc, "ID", id.as_str())
 }
 
-/// Whether each kind of error says this of the fields.
+/// Whether the message of each kind of error is right for the fields.
 fn all_say(alloc: Global, fields: Fields<'_>) -> Result<bool, AllocError> {
     let mut is_so = true;
     for (kind, _, text) in &KINDS {
@@ -36,7 +36,7 @@ fn all_say(alloc: Global, fields: Fields<'_>) -> Result<bool, AllocError> {
     Ok(is_so)
 }
 
-/// Whether an error of this kind says this of the fields, with its policy and without.
+/// Whether the message of an error of this kind is right for the fields, with its policy and without.
 fn says(alloc: Global, kind: Kind, text: &str, fields: Fields<'_>) -> Result<bool, AllocError> {
     let error = error(alloc, kind, fields)?;
     let message = expected_message(alloc, text, fields)?;
@@ -46,7 +46,7 @@ fn says(alloc: Global, kind: Kind, text: &str, fields: Fields<'_>) -> Result<boo
     Ok(error.to_string(alloc)? == whole && is_message)
 }
 
-/// Whether each kind says it of this text, wherever that stands.
+/// Whether the message of each kind is right for this text, in any field.
 fn all_say_it(alloc: Global, odd: &str) -> Result<bool, AllocError> {
     let second = format!(in alloc; "y{odd}")?;
     let fields = Fields {
@@ -74,7 +74,7 @@ const NOT_APPLICABLE: &str =
 /// The message if a policy never applies.
 const IMPOSSIBLE: &str = "policy is impossible: it evaluates to false for every valid request";
 
-/// Whether this is said of the policy of this id, and without it.
+/// Whether this is the text of the warning for the policy of this id, with the id and without.
 fn is_text_of(
     alloc: Global,
     warning: &ValidationWarning,

@@ -1,4 +1,4 @@
-// Which errors are the same finding, and which warnings the same warning.
+// Equality of errors as findings, and of warnings.
 use crate::parts::{place, policy, uid};
 use crate::types_tests::kinds::{Fields, Kind, application, error};
 use cedar_types::base::{EntityUID, Loc, PolicyID, ValidationError, ValidationWarning};
@@ -28,8 +28,8 @@ const FIELDS: [Field; 6] = [
     Field::Flag,
 ];
 
-/// The fields that each kind has beside its place and its policy, and its message: `FIRST` and `SECOND` stand for the
-/// fields, and `ID` for the second as an id is shown.
+/// The fields of each kind beside its place and its policy, and its message: `FIRST` and `SECOND` stand for the fields, and
+/// `ID` for the second as an id is shown.
 pub const KINDS: [(Kind, &[Field], &str); 17] = [
     (
         Kind::UnrecognizedEntityType,
@@ -127,7 +127,7 @@ pub const PLAIN: Fields = Fields {
     flag: true,
 };
 
-/// The same with another value of a field.
+/// The fields with another value of one.
 fn change(field: Field) -> Fields<'static> {
     match field {
         Field::Place => Fields { place: 8, ..PLAIN },
@@ -155,7 +155,7 @@ fn counts(field: Field, own: &[Field]) -> bool {
     matches!(field, Field::Place | Field::Policy) || own.contains(&field)
 }
 
-/// Whether `==` and a set, which asks for hashes, both say whether two values are one.
+/// Whether `==` and a set, which asks for hashes, both tell rightly if two values are one.
 fn is_said<T: Eq + Hash + Drop>(
     alloc: Global,
     one: T,
@@ -168,7 +168,7 @@ fn is_said<T: Eq + Hash + Drop>(
     Ok(are_equal == are_one && set.contains(other) == are_one)
 }
 
-/// Whether the order of errors says so too, from both sides.
+/// Whether the order of errors tells it rightly too, from both sides.
 fn is_told(
     alloc: Global,
     one: ValidationError,
@@ -181,7 +181,7 @@ fn is_told(
     Ok(is_said(alloc, one, other, are_one)? && is_ordered)
 }
 
-/// Whether the error of these fields is told from another, or is one with it.
+/// Whether the error of these fields is told apart from another, or is one with it.
 fn is_made(
     alloc: Global,
     kind: Kind,
@@ -192,7 +192,7 @@ fn is_made(
     is_told(alloc, error(alloc, kind, fields)?, other, are_one)
 }
 
-/// Whether errors of a kind that differ in one field are one finding just where the kind does not have the field.
+/// Whether errors of a kind that differ in one field are one finding exactly if the kind does not have the field.
 fn fields_count(alloc: Global, kind: Kind, own: &[Field]) -> Result<bool, AllocError> {
     let plain = error(alloc, kind, PLAIN)?;
     let mut is_so = is_made(alloc, kind, PLAIN, &plain, true)?;
@@ -211,7 +211,7 @@ fn errors_are_one_where_all_fields_are(rt: HostRuntime) -> Result<(), Fail> {
     Ok(())
 }
 
-/// Whether no error of this kind is one of another kind, of the same fields.
+/// Whether no error of this kind equals one of another kind with these fields.
 fn is_alone(alloc: Global, kind: Kind) -> Result<bool, AllocError> {
     let plain = error(alloc, kind, PLAIN)?;
     let mut is_so = true;
@@ -241,8 +241,8 @@ pub fn impossible(alloc: Global, fields: Fields<'_>) -> Result<ValidationWarning
     Ok(ValidationWarning::impossible_policy(place(fields.place), id))
 }
 
-/// Whether the message about an action differs from that with another value of this field, and from
-/// the message about a policy.
+/// Whether the message about an action differs from the one with another value of this field, and from the message about a
+/// policy.
 fn is_told_of_actions(alloc: Global, field: Field) -> Result<bool, AllocError> {
     let plain = application_warning(alloc, PLAIN)?;
     let are_one = !counts(field, &[Field::Number, Field::Flag]);
@@ -255,7 +255,7 @@ fn is_told_of_actions(alloc: Global, field: Field) -> Result<bool, AllocError> {
     Ok(is_said(alloc, impossible(alloc, change(field))?, &plain, false)? && is_so)
 }
 
-/// Whether the message about a policy differs from that with another value of this field.
+/// Whether the message about a policy differs from the one with another value of this field.
 fn is_told_of_policies(alloc: Global, field: Field) -> Result<bool, AllocError> {
     let plain = impossible(alloc, PLAIN)?;
     let are_one = !counts(field, &[]);
@@ -271,7 +271,7 @@ fn warnings_are_one_where_all_fields_are(rt: HostRuntime) -> Result<(), Fail> {
     Ok(())
 }
 
-/// That the action `A::"a"`, whose id stands at the second place, is unknown.
+/// The error that the action `A::"a"`, whose id stands at the second place, is unknown.
 fn unknown(
     alloc: Global,
     loc: Option<Loc>,
@@ -282,7 +282,7 @@ fn unknown(
     Ok(ValidationError::unrecognized_action_id(loc, policy(alloc)?, id))
 }
 
-/// Whether both are one finding, by equality and by order, whose ids stand at these places.
+/// Whether two errors are one finding, by equality and by order, if their ids stand at these places.
 fn are_one_at(alloc: Global, here: Option<Loc>, there: Option<Loc>) -> Result<bool, AllocError> {
     let error = unknown(alloc, place(1), here)?;
     let same = unknown(alloc, place(1), there)?;

@@ -1,4 +1,4 @@
-// Each kind of error and warning, made of fields that are texts, numbers and places.
+// Kinds of errors and warnings, made of fields that are texts, numbers and places.
 use crate::parts::{add, alone, entity, entity_type, lub, place, text, uid};
 use cedar_types::base::{
     CedarType, EntityDerefLevel, LubContext, Name, PolicyID, ValidationError, ValidationWarning,
@@ -7,7 +7,7 @@ use cedar_types::base::{
 use std::alloc::{AllocError, Global};
 use std::collections::BTreeSet;
 
-/// The parts of which an error is made. Each kind takes some of them.
+/// The parts of an error. Each kind takes some of them.
 #[derive(Clone, Copy)]
 pub struct Fields<'a> {
     pub place: usize,
@@ -62,7 +62,7 @@ fn context(flag: bool) -> LubContext {
     }
 }
 
-/// That an entity of the second name stands where one of the first is expected.
+/// The error that an entity of the second name stands where one of the first is expected.
 fn unexpected_type(
     alloc: Global,
     fields: Fields<'_>,
@@ -73,7 +73,7 @@ fn unexpected_type(
     Ok(ValidationError::expected_one_of_types(place(fields.place), id, expected, found))
 }
 
-/// That entities of both names have no type in common.
+/// The error that entities of both names have no type in common.
 fn incompatible(
     alloc: Global,
     fields: Fields<'_>,
@@ -84,7 +84,7 @@ fn incompatible(
     Ok(ValidationError::incompatible_types(place(fields.place), id, types, context))
 }
 
-/// That the attribute of the second name may not be there: an optional one, or any.
+/// The error that the attribute of the second name may be missing: an optional one, or any.
 fn unsafe_attribute(
     alloc: Global,
     fields: Fields<'_>,
@@ -99,13 +99,13 @@ fn unsafe_attribute(
     Ok(ValidationError::unsafe_attribute_access(loc, id, owner, attr, fields.flag))
 }
 
-/// That there are another number of arguments.
+/// The error that a call has another number of arguments.
 fn wrong_number(fields: Fields<'_>, id: PolicyID) -> ValidationError {
     let (wanted, found) = (usize::from(fields.flag), fields.number as usize);
     ValidationError::wrong_number_args(place(fields.place), id, wanted, found)
 }
 
-/// That the level is too high.
+/// The error that the level is too high.
 fn level_error(fields: Fields<'_>, id: PolicyID) -> ValidationError {
     let allowed = EntityDerefLevel::from(u32::from(fields.flag));
     let needed = EntityDerefLevel::from(fields.number);

@@ -1,5 +1,5 @@
-// The names in a template, each occurrence with its places. The names of the rest come first, then the resource's, the
-// action's and the principal's, in each from the last to the first.
+// Names in a template, each occurrence with its places. The names of the rest come first, then the resource's, the action's and
+// the principal's, in each from the last to the first.
 use crate::parts::{add, boxed, place, policy};
 use cedar_types::base::{
     ActionConstraint, EntityType, EntityUID, Expr, Loc, Mention, Mentions, Name, PolicyID,
@@ -20,7 +20,7 @@ fn id(alloc: Global, name: &str, at: usize) -> Result<EntityUID, AllocError> {
     EntityUID::from_components(alloc, entity_type, "a", place(at.saturating_add(1)))
 }
 
-/// Where a place starts, and 0 where there is none.
+/// The start of a place, and 0 if there is none.
 fn start(loc: Option<Loc>) -> usize {
     match loc {
         Some(Loc { start, end: _end }) => start,
@@ -28,7 +28,7 @@ fn start(loc: Option<Loc>) -> usize {
     }
 }
 
-/// The same of an id, and 0 where there is none.
+/// The start of an id, and 0 if there is none.
 fn id_start(uid: Option<&EntityUID>) -> usize {
     match uid {
         Some(uid) => start(uid.loc),
@@ -36,7 +36,7 @@ fn id_start(uid: Option<&EntityUID>) -> usize {
     }
 }
 
-/// Whether it is of this type, which stands here, and its id there, or at 0 where it is no id.
+/// Whether the mention is of this type at its first place, and has its id at the second, or 0 if it is no id.
 fn is_of(mention: &Mention<'_>, (name, type_at, id_at): (&str, usize, usize)) -> bool {
     let entity_type = mention.entity_type();
     entity_type.name.basename.as_str() == name
@@ -78,7 +78,7 @@ fn whole(alloc: Global) -> Result<Box<Template>, AllocError> {
     )
 }
 
-/// The names there, in the order in which they come.
+/// The names of the template, in the order in which they come.
 const NAMED: [(&str, usize, usize); 5] = [
     ("Robot", 9, 0),
     ("Photo", 7, 0),
@@ -99,7 +99,7 @@ fn each_occurrence_comes_once(rt: HostRuntime) -> Result<(), Fail> {
     Ok(())
 }
 
-/// Where the ids in a template stand.
+/// The places of the ids in a template.
 fn ids_at(alloc: Global, t: &Template) -> Result<Vec<usize>, AllocError> {
     let mut places = Vec::new(alloc);
     for uid in t.policy_entity_uids(alloc)? {
@@ -108,7 +108,7 @@ fn ids_at(alloc: Global, t: &Template) -> Result<Vec<usize>, AllocError> {
     Ok(places)
 }
 
-/// Where the types in a template stand, those of its ids among them.
+/// The places of the types in a template, with those of its ids.
 fn types_at(alloc: Global, t: &Template) -> Result<Vec<usize>, AllocError> {
     let mut places = Vec::new(alloc);
     for entity_type in t.policy_entity_type_names(alloc)? {
@@ -117,7 +117,7 @@ fn types_at(alloc: Global, t: &Template) -> Result<Vec<usize>, AllocError> {
     Ok(places)
 }
 
-/// Whether these are the places of its ids and of its types.
+/// Whether these are the places of the template's ids and types.
 fn are_listed(alloc: Global, t: &Template) -> Result<bool, AllocError> {
     let ids = ids_at(alloc, t)?;
     let types = types_at(alloc, t)?;
@@ -131,7 +131,7 @@ fn ids_and_types_are_listed(rt: HostRuntime) -> Result<(), Fail> {
     Ok(())
 }
 
-/// The template of these constraints alone.
+/// The template of only these constraints.
 fn template_of_scope(
     id: PolicyID,
     principal: PrincipalConstraint,
@@ -151,7 +151,7 @@ fn slots(alloc: Global, t: &Template) -> Result<(bool, bool), AllocError> {
     ))
 }
 
-/// A template with the slot of the principal alone.
+/// A template with only the principal's slot.
 fn of_principal(alloc: Global) -> Result<Box<Template>, AllocError> {
     let principal = PrincipalConstraint::is_eq_slot();
     boxed(
@@ -160,7 +160,7 @@ fn of_principal(alloc: Global) -> Result<Box<Template>, AllocError> {
     )
 }
 
-/// One with that of the resource alone.
+/// A template with only the resource's slot.
 fn of_resource(alloc: Global) -> Result<Box<Template>, AllocError> {
     let resource = ResourceConstraint::is_in_slot();
     boxed(

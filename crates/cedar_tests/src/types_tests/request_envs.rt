@@ -1,4 +1,4 @@
-// The environments of requests: their parts, and how slots are linked.
+// Environments of requests: their parts, and the links of slots.
 use crate::parts::{boxed, entity_type, uid};
 use cedar_types::base::{CedarType, EntityType, RequestType, SlotEnv, SlotId, UnlinkedRequestEnv};
 use cedar_types::types::request_env::RequestEnv;
@@ -25,7 +25,7 @@ fn has_types(env: &RequestEnv<'_>, asked: &UnlinkedRequestEnv) -> bool {
         && env.resource_entity_type() == Some(&asked.resource)
 }
 
-/// Whether its environment has them.
+/// Whether the question's own environment has these types.
 fn has_its_types(asked: &UnlinkedRequestEnv) -> bool {
     has_types(&asked.as_request_env(), asked)
 }
@@ -41,7 +41,7 @@ fn request(alloc: Global, asked: &UnlinkedRequestEnv) -> Result<Option<RequestTy
     asked.as_request_env().to_request_type(alloc)
 }
 
-/// Whether there is a request, for this question.
+/// Whether there is a request, and it is for this question.
 fn is_for(request: &Option<RequestType>, asked: &UnlinkedRequestEnv) -> bool {
     match request {
         Some(request) => {
@@ -53,7 +53,7 @@ fn is_for(request: &Option<RequestType>, asked: &UnlinkedRequestEnv) -> bool {
     }
 }
 
-/// Whether the request of its environment is for it.
+/// Whether the request of the question's environment is for the question.
 fn is_asked(alloc: Global, asked: &UnlinkedRequestEnv) -> Result<bool, AllocError> {
     Ok(is_for(&request(alloc, asked)?, asked))
 }
@@ -65,7 +65,7 @@ fn a_request_has_the_parts_of_its_environment(rt: HostRuntime) -> Result<(), Fai
     Ok(())
 }
 
-/// `?principal` is bound to a team.
+/// Links that bind `?principal` to a team.
 fn team(alloc: Global) -> Result<SlotEnv, AllocError> {
     let mut slots = BTreeMap::new(alloc);
     drop(slots.insert(SlotId::Principal, uid(alloc, "Team", "t")?)?);
@@ -88,7 +88,7 @@ fn has_slots(env: &RequestEnv<'_>, principal: &EntityType) -> bool {
     env.principal_slot() == Some(principal) && env.resource_slot().is_none()
 }
 
-/// Whether the last of the two counts.
+/// Whether the last of the two links counts.
 fn last_counts(alloc: Global, asked: &UnlinkedRequestEnv) -> Result<bool, AllocError> {
     let env = link_env(alloc, asked)?;
     Ok(has_slots(&env, &entity_type(alloc, "Team")?))

@@ -1,4 +1,4 @@
-// The texts that a set of capabilities shows for each.
+// Texts that a set of capabilities shows for each of them.
 use crate::parts::{boxed, text};
 use cedar_types::base::{AttrChain, Expr, Literal, Var};
 use cedar_types::types::capability::{Accesses, Capability, CapabilitySet, ChainStep, Known};
@@ -6,7 +6,7 @@ use std::alloc::{AllocError, Global};
 use std::rc::RcStr;
 use std::test::Fail;
 
-/// Whether these are the accesses of one variable, of these attributes.
+/// Whether these are the accesses to these attributes of one variable.
 fn are_of(on: &Accesses<'_>, variable: &Expr, attrs: &[&str]) -> bool {
     on.base.has_shape_of(variable) && are_texts(on.first, on.rest, attrs)
 }
@@ -30,7 +30,7 @@ fn are_same_texts(texts: &[RcStr], wanted: &[&str]) -> bool {
             .all(|(text, wanted)| text.as_str() == *wanted)
 }
 
-/// Whether it is an attribute of this name.
+/// Whether the capability is of an attribute of this name.
 fn is_attribute(known: &Known<'_>, wanted: &str) -> bool {
     match known {
         Known::Attribute(name) => name.as_str() == wanted,
@@ -38,7 +38,7 @@ fn is_attribute(known: &Known<'_>, wanted: &str) -> bool {
     }
 }
 
-/// Whether it is a tag whose name has this shape.
+/// Whether the capability is of a tag whose name has this shape.
 fn is_tag(known: &Known<'_>, wanted: &Expr) -> bool {
     match known {
         Known::Attribute(_name) => false,
@@ -46,12 +46,12 @@ fn is_tag(known: &Known<'_>, wanted: &Expr) -> bool {
     }
 }
 
-/// The set of this capability.
+/// The set of only this capability.
 fn set_of<'a>(alloc: Global, only: Capability<'a>) -> Result<Box<CapabilitySet<'a>>, AllocError> {
     boxed(alloc, CapabilitySet::singleton(alloc, only)?)
 }
 
-/// Whether a set that has an attribute of a variable shows that.
+/// Whether a set with an attribute of a variable shows it.
 fn shows_an_attribute(alloc: Global, base: &Expr) -> Result<bool, AllocError> {
     let set = set_of(alloc, Capability::new_attribute(base, text(alloc, "x")?))?;
     let [only] = set.as_slice() else {
@@ -61,7 +61,7 @@ fn shows_an_attribute(alloc: Global, base: &Expr) -> Result<bool, AllocError> {
     Ok(are_of(&on, base, &[]) && is_attribute(known, "x"))
 }
 
-/// Whether a set that has a tag of a variable shows that.
+/// Whether a set with a tag of a variable shows it.
 fn shows_a_tag(alloc: Global, base: &Expr) -> Result<bool, AllocError> {
     let name = Expr::val(Literal::from_string(alloc, "x")?);
     let set = set_of(alloc, Capability::new_borrowed_tag(base, &name))?;
@@ -72,7 +72,7 @@ fn shows_a_tag(alloc: Global, base: &Expr) -> Result<bool, AllocError> {
     Ok(are_of(&on, base, &[]) && is_tag(known, &name))
 }
 
-/// Whether a set that has the third step of `has x.y.z` shows it.
+/// Whether a set with the third step of `has x.y.z` shows it.
 fn shows_a_step(alloc: Global, base: &Expr, attrs: &AttrChain) -> Result<bool, AllocError> {
     let Some(last) = third_step(base, attrs) else {
         return Ok(false);

@@ -1,13 +1,13 @@
-// The parts of an expression, one after another, and the slots that occur in it.
+// Parts of an expression, one after another, and the slots that occur in it.
 use cedar_fixtures::negations::{negate, take_apart};
 use cedar_types::base::{Expr, ExprIterator, ExprKind, SlotId, Var};
 use std::alloc::{AllocError, Global};
 use std::test::Fail;
 
-/// How many negations stand inside each other.
+/// The number of negations inside each other.
 const DEPTH: usize = 100_000;
 
-/// The expressions that are still to come.
+/// The number of expressions that are still to come.
 fn count(expressions: ExprIterator<'_>) -> Result<usize, AllocError> {
     let mut counted: usize = 0;
     for expr in expressions {
@@ -17,7 +17,7 @@ fn count(expressions: ExprIterator<'_>) -> Result<usize, AllocError> {
     Ok(counted)
 }
 
-/// The variable that comes next, or `None` where something else does.
+/// The variable that comes next; `None` if another expression does.
 fn next_variable(visited: &mut ExprIterator<'_>) -> Result<Option<Var>, AllocError> {
     match visited.next().ok_or(AllocError)??.kind {
         ExprKind::Var(variable) => Ok(Some(variable)),
@@ -54,7 +54,7 @@ fn variable(expr: &Expr) -> Option<Var> {
     }
 }
 
-/// Whether the parts are the test, the branch that it chooses and the other one, and theirs are not among them.
+/// Whether the parts are the test, the branch that it chooses and the other one, without the parts of these.
 fn are_direct(parts: &Vec<&Expr>) -> bool {
     parts.len() == 3
         && variable(parts[0]).is_none()
@@ -72,7 +72,7 @@ fn the_parts_of_an_if_are_its_test_and_then_its_branches(rt: HostRuntime) -> Res
     Ok(())
 }
 
-/// How many parts there are, where the principal's slot is none of them.
+/// The number of parts, if the principal's slot is none of them.
 fn count_parts(alloc: Global, whole: &Expr) -> Result<Option<usize>, AllocError> {
     if whole.mentions_slot(alloc, SlotId::Principal)? {
         return Ok(None);

@@ -77,7 +77,7 @@ fn show_in_order(alloc: Global) -> Result<String, AllocError> {
     Ok(shown)
 }
 
-/// Whether the first equals itself and comes before the second.
+/// Whether the first type equals itself and comes before the second.
 fn equals_itself_and_is_below(first: &CedarType, second: &CedarType) -> bool {
     equal_types(first, first) && compare_types(first, second) == Ordering::Less
 }
@@ -101,7 +101,7 @@ fn a_set_of_entity_types_is_not_empty(rt: HostRuntime) -> Result<(), Fail> {
     Ok(())
 }
 
-/// Whether the sets of these entity types have none in common.
+/// Whether these two sets of entity types have no type in common.
 fn are_disjoint(alloc: Global, names: &[&str], others: &[&str]) -> Result<bool, AllocError> {
     let set = lub(alloc, names)?;
     Ok(set.is_disjoint(&lub(alloc, others)?))

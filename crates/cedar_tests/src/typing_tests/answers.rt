@@ -1,4 +1,4 @@
-// The three answers, and questions about each alone.
+// The three answers of typing, and questions about each of them.
 use crate::typing_tests::parts::{is_failure, knowing, long, number};
 use cedar_types::base::CedarType;
 use cedar_typing::typecheck::answer::TypecheckAnswer;

@@ -1,10 +1,10 @@
-// A policy far deeper than the limit: it is answered, and nothing recurses beyond the limit.
+// A policy far deeper than the limit: it gets an answer, and nothing recurses beyond the limit.
 use crate::typing_tests::checks::{check_policy, outcome, permit_when};
 use cedar_fixtures::negations::{negate, take_apart};
 use cedar_types::base::Template;
 use std::test::Fail;
 
-/// How many negations stand inside each other.
+/// The number of negations inside each other.
 const DEPTH: usize = 100_000;
 
 #[test]

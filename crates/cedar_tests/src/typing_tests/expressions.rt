@@ -1,4 +1,4 @@
-// The check of an expression where it stands, and the typed condition of a check that fails.
+// The check of an expression at its place, and the typed condition of a check that fails.
 use crate::typing_tests::checks::permit_when;
 use cedar_reading::schema;
 use cedar_types::base::{
@@ -31,7 +31,7 @@ fn is_text(typed: Option<&Expr<Option<CedarType>>>) -> bool {
     }
 }
 
-/// How many errors an expression has that fails where nothing is known, and has a tree.
+/// The number of errors of an expression that fails without prior capabilities, and has a tree.
 fn count_errors<C: ArgumentCheck>(
     alloc: Global,
     checker: &Typechecker<'_, C>,
@@ -47,7 +47,7 @@ fn count_errors<C: ArgumentCheck>(
     Ok(check.errors.len())
 }
 
-/// Whether an expression is a text, without an error, where these capabilities are known.
+/// Whether an expression is a text, without an error, with these prior capabilities.
 fn is_text_where<'x, C: ArgumentCheck>(
     alloc: Global,
     checker: &Typechecker<'_, C>,
@@ -60,7 +60,7 @@ fn is_text_where<'x, C: ArgumentCheck>(
     Ok(check.answer.typechecked() && check.errors.is_empty() && is_text(check.typed()))
 }
 
-/// Whether an expression is a text where this one is true, which is typed where nothing is known.
+/// Whether an expression is a text if this other one is true, which is typed without prior capabilities.
 fn is_text_after<'x, C: ArgumentCheck>(
     alloc: Global,
     checker: &Typechecker<'_, C>,

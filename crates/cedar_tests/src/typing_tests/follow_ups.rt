@@ -10,7 +10,7 @@ fn knowing_x<'a>(alloc: Global) -> Result<TypecheckAnswer<'a>, AllocError> {
     Ok(TypecheckAnswer::success_with_capability(long(alloc, 7)?, knowing(alloc, "x")?))
 }
 
-/// The answer, which knows `y` in place of all else where it knows `x`.
+/// The answer, in which `y` replaces all that is known if `x` is known.
 fn replace<'a>(
     alloc: Global,
     answer: TypecheckAnswer<'a>,
@@ -24,7 +24,7 @@ fn replace<'a>(
     })
 }
 
-/// Whether it is a success that knows that the principal has this attribute.
+/// Whether the answer is a success that knows that the principal has this attribute.
 fn is_knowing(alloc: Global, answer: &TypecheckAnswer<'_>, attr: &str) -> Result<bool, AllocError> {
     match answer {
         TypecheckAnswer::TypecheckSuccess {
@@ -43,7 +43,7 @@ fn the_set_of_a_success_is_replaced(rt: HostRuntime) -> Result<(), Fail> {
     Ok(())
 }
 
-/// The answer, with a set that memory is refused for.
+/// The answer, whose set memory is refused for.
 fn refuse(answer: TypecheckAnswer<'_>) -> Result<TypecheckAnswer<'_>, AllocError> {
     answer.map_capability(|_| Err(AllocError))
 }
@@ -57,7 +57,7 @@ fn only_a_success_has_a_set_to_replace(rt: HostRuntime) -> Result<(), Fail> {
     Ok(())
 }
 
-/// Follows up with a string on a `7`, and with a limit on all else, if this is known of `x`.
+/// Follows up with a string on a `7`, and with a limit on any other answer, if `x` is known or not, as `is_known` tells.
 fn follow_up<'a>(
     alloc: Global,
     answer: TypecheckAnswer<'a>,

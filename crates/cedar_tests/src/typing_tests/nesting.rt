@@ -5,10 +5,10 @@ use cedar_types::base::{AttrChain, Expr, ValidationMode, Var};
 use std::alloc::{AllocError, Global};
 use std::test::Fail;
 
-/// Conditions, in each of which a word in capitals stands for a part that is nested as deep as the test asks, in each place
-/// that is visited. Behind a condition stands the depth of that part: the condition itself stands at 2, below the conjunction
-/// with the scope's constraints. Then come the answers of the check in each mode, first with the innermost part at depth 400,
-/// and then at 401.
+/// Conditions of operators. In each, a word in capitals stands for a part that is nested as deep as the test asks, in each
+/// place that is visited. Behind a condition stands the depth of that part: the condition itself stands at 2, below the
+/// conjunction with the scope's constraints. Then come the answers of the check in each mode, first with the innermost part at
+/// depth 400, and then at 401.
 const OPERATORS: &str = r#"
 BOOL && true | 3 | success | failure
 true && BOOL | 3 | success | failure
@@ -40,7 +40,7 @@ LONG * 1 == 1 | 4 | success | failure
 1 * LONG == 1 | 4 | success | failure
 "#;
 
-/// The same of entities, tags and texts.
+/// Conditions of entities, tags and texts, as in `OPERATORS`.
 const ENTITIES: &str = r#"
 USER in principal | 3 | success | failure
 principal in USER | 3 | success | failure
@@ -54,7 +54,7 @@ TEXT like "a*" | 3 | success | failure
 USER is User | 3 | success | failure
 "#;
 
-/// The same of sets, records and calls.
+/// Conditions of sets, records and calls, as in `OPERATORS`.
 const SETS_AND_CALLS: &str = r#"
 SET.contains(1) | 3 | success | failure
 [1].contains(LONG) | 3 | success | failure
@@ -74,8 +74,8 @@ isInRange(IP, principal.ip) | 3 | success | failure
 isInRange(principal.ip, IP) | 3 | success | failure
 "#;
 
-/// The same, where other parts have errors: those before the innermost part are found, and of those behind it the ones that
-/// are typed even after it.
+/// Conditions with errors in other parts, as in `OPERATORS`: errors before the innermost part are found, and of those behind it
+/// the ones in parts that are typed even after it.
 const BESIDE_ERRORS: &str = r#"
 1 && BOOL | 3 | failure; LONG_FOR_BOOL | failure; LONG_FOR_BOOL
 BOOL && 1 | 3 | failure; LONG_FOR_BOOL | failure
@@ -109,7 +109,7 @@ nope(LONG) == 1 | 4 | failure; NO_FUNCTION | failure; NO_FUNCTION
 nope(LONG, 1 + "a") == 1 | 4 | failure; NO_FUNCTION; TEXT_FOR_LONG | failure; NO_FUNCTION
 "#;
 
-/// The same, where it is not visited.
+/// Conditions in which the part is not visited, as in `OPERATORS`.
 const NOT_VISITED: &str = r#"
 false && BOOL | 3 | irrelevant | irrelevant
 true || BOOL | 3 | success | success
@@ -117,7 +117,7 @@ if false then BOOL else true | 3 | success | success
 if true then true else BOOL | 3 | success | success
 "#;
 
-/// The attribute that a word stands for, of `principal.boss.boss..`.
+/// The attribute of `principal.boss.boss..` that a word stands for.
 const PARTS: [(&str, &str); 6] = [
     ("BOOL", "ok"),
     ("LONG", "age"),
@@ -153,7 +153,7 @@ const MODES: [ValidationMode; 3] = [
     ValidationMode::Partial,
 ];
 
-/// A condition, with so many accesses between the attribute of each part and `principal`.
+/// A condition, with this many accesses between the attribute of each part and `principal`.
 fn with_parts(alloc: Global, form: &str, accesses: usize) -> Result<String, AllocError> {
     let bosses = ".boss".repeat(alloc, accesses)?;
     let mut text = String::from_str(alloc, form)?;
@@ -181,7 +181,7 @@ fn read(alloc: Global, text: &str) -> Result<Expr, Fail> {
     }
 }
 
-/// The first mode in which the check of a condition comes to something else, if there is one.
+/// The first mode in which the check of a condition has another answer, if there is one.
 fn mode_that_differs(
     alloc: Global,
     text: &str,
@@ -197,7 +197,7 @@ fn mode_that_differs(
     Ok(None)
 }
 
-/// Whether a line's condition has the answers of the line, if its innermost part stands at depth 400, and at 401.
+/// Whether a line's condition has the answers of the line, with its innermost part at depth 400, and at 401.
 fn agrees(alloc: Global, line: &str) -> Result<bool, Fail> {
     let (form, rest) = line.split_once(" | ").ok_or("a depth")?;
     let (depth, answers) = rest.split_once(" | ").ok_or("an answer")?;

@@ -25,20 +25,20 @@ pub fn long(alloc: Global, value: i64) -> Result<Box<Expr<Option<CedarType>>>, A
     number(alloc, value, Some(CedarType::Long))
 }
 
-/// Whether it is this literal number, typed as a long.
+/// Whether an expression is this literal number, typed as a long.
 pub fn is_long(expr: &Expr<Option<CedarType>>, value: i64) -> bool {
     let is_typed = matches!(&expr.annotation, Some(CedarType::Long));
     matches!(&expr.kind, ExprKind::Lit(Literal::Long(found)) if is_typed && *found == value)
 }
 
-/// That the principal has the attribute `attr`, alone.
+/// The set of only the capability that the principal has the attribute `attr`.
 pub fn knowing<'a>(alloc: Global, attr: &str) -> Result<CapabilitySet<'a>, AllocError> {
     let attr = RcStr::from_str(alloc, attr)?;
     let principal = Expr::var(Var::Principal);
     CapabilitySet::singleton(alloc, Capability::new_attribute_owned(principal, attr))
 }
 
-/// Whether it is known that the principal has the attribute `attr`.
+/// Whether a set has the capability that the principal has the attribute `attr`.
 pub fn knows(alloc: Global, set: &CapabilitySet<'_>, attr: &str) -> Result<bool, AllocError> {
     let attr = RcStr::from_str(alloc, attr)?;
     let principal = Expr::var(Var::Principal);

@@ -19,7 +19,7 @@ enum Item {
     Refused,
 }
 
-/// The items in order; each answer's number is that of its item. It counts how often it is asked for one.
+/// The answers of items in order; each answer's number is that of its item. It counts how often it is asked for one.
 #[derive(Drop)]
 struct Answers<'a> {
     alloc: Global,
@@ -68,7 +68,7 @@ fn answer<'a>(alloc: Global, item: Item, value: i64) -> Result<TypecheckAnswer<'
     }
 }
 
-/// Adds the items that are handed on: each by its number and, if it knows `x`, an x.
+/// Adds the items that are handed on: each by its number, and with an x if it knows `x`.
 fn add_handed(
     alloc: Global,
     shown: &mut String,
@@ -134,7 +134,7 @@ fn answers_are_taken_until_the_first_limit(rt: HostRuntime) -> Result<(), Fail> 
     Ok(())
 }
 
-/// Whether the answer is a limit, where a failure is followed by one.
+/// Whether the answer is a limit, if a limit follows a failure.
 fn is_limit_after_failure(alloc: Global, asked: &Cell<i64>) -> Result<bool, AllocError> {
     let failures = take_from(alloc, &[Item::Failure], asked);
     let answer = TypecheckAnswer::sequence_all_then_typecheck(
@@ -145,7 +145,7 @@ fn is_limit_after_failure(alloc: Global, asked: &Cell<i64>) -> Result<bool, Allo
     Ok(is_limit(&answer))
 }
 
-/// Whether the answer is an error, where a limit is followed by one.
+/// Whether the answer is an error, if an error follows a limit.
 fn is_error_after_limit(alloc: Global, asked: &Cell<i64>) -> bool {
     let limits = take_from(alloc, &[Item::Limit], asked);
     TypecheckAnswer::sequence_all_then_typecheck(alloc, limits, |_| Err(AllocError)).is_err()

@@ -1,0 +1,3 @@
+pub mod Conclusions
+pub mod ExpressionPromises
+pub mod PolicyPromises

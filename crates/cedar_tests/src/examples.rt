@@ -1,0 +1,29 @@
+//! Examples of the libraries' promises, and conclusions from their laws, each on a function that does nothing.
+ghost use Rattle.cedar_tests.specs.Conclusions.{CopiesFailAlike, ImpossibleInBothModes, PartialFindsNoOther, RequiredInBothModes, SilentInBothModes};
+ghost use Rattle.cedar_tests.specs.ExpressionPromises.{AnswerExamples, FailureExamples, SuccessExamples};
+ghost use Rattle.cedar_tests.specs.PolicyPromises.{BothHalvesAtItsLevel, CopiesOfFaultySchemas, ErrorsBesideLevels, ErrorsOfMembers};
+
+/// Answers of the check of an expression that keep each promise, and answers that break one of them alone.
+pub fn examples_of_expression_promises()
+    ensures success { SuccessExamples }
+    ensures failure { FailureExamples }
+    ensures answer { AnswerExamples }
+{}
+
+/// Beside which errors a policy keeps its promise; that the promise of a required level has two halves; and typed conditions
+/// that mean something else, by schemas with a fault.
+pub fn examples_of_policy_promises()
+    ensures members { ErrorsOfMembers }
+    ensures errors { ErrorsBesideLevels }
+    ensures level { BothHalvesAtItsLevel }
+    ensures copies { CopiesOfFaultySchemas }
+{}
+
+/// Conclusions from laws: on failures over parts of a store, and on the modes.
+pub fn conclusions_of_laws()
+    ensures slices { CopiesFailAlike }
+    ensures partial { PartialFindsNoOther }
+    ensures impossible { ImpossibleInBothModes }
+    ensures required { RequiredInBothModes }
+    ensures silent { SilentInBothModes }
+{}
