@@ -1,4 +1,4 @@
--- What the gate decides of policies.
+-- Decisions of the gate on policies.
 use Rattle.std.specs.Prelude.{◌≡◌, ℕ, Bool, not, List, map, All}
 use Rattle.std.specs.List.{filter}
 use Rattle.cedar_host.specs.declared.policy_sets.WrittenPolicy.{WrittenPolicy}
@@ -18,7 +18,7 @@ pub record AreDecided (b : Basis) (steps : ℕ) (policies : List WrittenPolicy) 
   pub reports : List SliceReport
   pub each : map (λ r. r.report.policy.now) reports ≡ policies
   pub right : All (IsRightForSlices b steps) reports
-  -- each says what is found in its policy, and accepts it exactly where nothing is found against it
+  -- each report tells the findings in its policy, and accepts it exactly if there are none
   pub exact : All (λ r. IsReportOf (AreFindingsWithin steps b) r.report) reports
   pub admitted : yes ≡ filter is_accepted reports
   pub refused : no ≡ filter is_refused reports

@@ -1,5 +1,6 @@
-// Cases for where-clauses: the tables of a schema, and of each policy in each environment its clause, or why it has none, whether or
-// not the check of the policy fails. So clauses of conditions that fail in evaluation are run too. scripts/where_cases.py runs it.
+// Cases for where-clauses: the tables of a schema, and the clause of each policy in each environment, or the reason why it has
+// none. A failed check leaves its clause too, so that clauses of conditions that fail in evaluation are run.
+// scripts/where_cases.py runs it.
 use crate::texts::*;
 use cedar_types::base::{CedarType, Expr, ValidatorSchema};
 use cedar_types::types::request_env::RequestEnv;
@@ -27,7 +28,7 @@ pub fn run(rt: &HostRuntime, files: Files<'_>) -> Result<(), HostError> {
     Ok(())
 }
 
-/// The clause of a policy in an environment, or why it has none.
+/// The clause of a policy in an environment, or the reason why it has none.
 fn print_policy<C: ArgumentCheck>(
     rt: &HostRuntime,
     schema: &ValidatorSchema,
@@ -50,7 +51,7 @@ fn print_policy<C: ArgumentCheck>(
     }
 }
 
-/// The condition with its types, whether or not its check fails. A part that is nested too deep leaves none.
+/// The condition with its types, even if its check fails. A part that is nested too deep leaves none.
 fn typed_condition(checked: ConditionCheck) -> Option<Expr<Option<CedarType>>> {
     match checked {
         ConditionCheck::Success(typed) => Some(typed),
@@ -59,7 +60,7 @@ fn typed_condition(checked: ConditionCheck) -> Option<Expr<Option<CedarType>>> {
     }
 }
 
-/// A text behind its length in bytes, since it may have line breaks.
+/// A text behind its length in bytes, because it may have line breaks.
 fn print_text(rt: &HostRuntime, text: &str) -> io::Result<()> {
     println!(rt; "{} {text}", text.len())
 }

@@ -10,7 +10,7 @@ use std::io;
 use std::rc::{Rc, RcStr};
 use thiserror::Error;
 
-/// Why the report is not printed whole.
+/// The reason why the report is not printed whole.
 #[derive(Debug, Drop, Error)]
 pub enum ReportError {
     #[error(transparent)]
@@ -77,7 +77,7 @@ fn policy(alloc: Global, id: &str, condition: Expr) -> Result<WrittenPolicy, All
     })
 }
 
-/// Of `principal has vip && principal.vip`, and of the second half alone.
+/// The policy of `principal has vip && principal.vip`, and the policy of its second half.
 fn policies(alloc: Global) -> Result<Vec<WrittenPolicy>, AllocError> {
     let test = Expr::has_attr(alloc, Expr::var(Var::Principal), "vip")?;
     let access = Expr::get_attr(alloc, Expr::var(Var::Principal), "vip")?;

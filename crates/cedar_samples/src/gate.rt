@@ -1,4 +1,4 @@
-// A gate in front of an authoriser: which policies of a file it admits by the schema of a file, and why it refuses the others.
+// A gate in front of an authoriser: it admits policies of a file by the schema of a file, and tells why it refuses the others.
 ghost use Rattle.std.specs.Prelude.{IfOk};
 ghost use Rattle.cedar_host.specs.Safety.{sound_basis};
 ghost use Rattle.cedar_samples.specs.Decisions.{AreDecided};
@@ -7,7 +7,7 @@ use crate::texts::*;
 use std::alloc::{AllocError, Global};
 use std::{fs, io};
 
-/// How many steps the slices have over which the authoriser evaluates.
+/// The number of steps of the slices over which the authoriser evaluates.
 const STEPS: u32 = 2;
 
 /// The decision of the gate on policies.
@@ -17,8 +17,8 @@ struct Decisions<'a> {
     refused: Vec<SliceReport<'a>>,
 }
 
-/// Admits the policies against which nothing is found, and refuses the others. Each of the first gives a boolean, or fails only
-/// for a missing entity, an overflow or an extension function; and it gives the same over each part of the entities that has
+/// Admits the policies without findings, and refuses the others. Each admitted policy gives a boolean, or fails only for a
+/// missing entity, an overflow or an extension function; and it gives the same result over each part of the entities that has
 /// the slice of two steps.
 fn decide<'a, C: ArgumentCheck>(
     alloc: Global,
@@ -57,7 +57,7 @@ fn show(rt: &HostRuntime, verdict: &str, of: &SliceReport<'_>) -> io::Result<()>
     Ok(())
 }
 
-/// Prints which policies are admitted, and why the others are refused.
+/// Prints the admitted policies, and the reasons why the others are refused.
 pub fn run(rt: &HostRuntime) -> Result<(), HostError> {
     let alloc = rt.alloc();
     let checks = Checks {

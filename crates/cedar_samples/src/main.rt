@@ -1,5 +1,5 @@
-//! Sample hosts, to read and to copy: `cedar-samples [example | gate | queries [SCHEMA POLICIES] | rounds]`. Without a word all run,
-//! one after another. `cedar-samples clauses SCHEMA POLICIES` prints cases for tests of where-clauses.
+//! Sample hosts, to read and to copy: `cedar-samples [example | gate | queries [SCHEMA POLICIES] | rounds]`. Without a word all
+//! run, one after another. `cedar-samples clauses SCHEMA POLICIES` prints cases for tests of where-clauses.
 #![tactic(auto)]
 
 mod clauses;
@@ -19,7 +19,7 @@ use thiserror::Error;
 const USAGE: &str =
     "usage: cedar-samples [example | gate | queries [SCHEMA POLICIES] | rounds | clauses SCHEMA POLICIES]";
 
-/// The files of the sample `queries`, where no others are named.
+/// The files of the sample `queries`, if no others are named.
 const DOCUMENTS: Files<'static> = Files {
     schema: "queries/documents.cedarschema",
     policies: "queries/documents.cedar",
@@ -34,7 +34,7 @@ enum Sample {
     Rounds,
 }
 
-/// In the order in which they run.
+/// All samples, in the order in which they run.
 const SAMPLES: [Sample; 4] = [
     Sample::Example,
     Sample::Gate,
@@ -42,7 +42,7 @@ const SAMPLES: [Sample; 4] = [
     Sample::Rounds,
 ];
 
-/// Why a sample does not go on.
+/// The reason why a sample does not go on.
 #[derive(Debug, Drop, Error)]
 enum SampleError {
     #[error(transparent)]
@@ -62,7 +62,7 @@ enum Asked {
     One(Sample),
     /// The queries of a schema and of policies, in these files.
     Queries(String, String),
-    /// Their clauses.
+    /// The clauses of a schema and of policies, in these files.
     Clauses(String, String),
     /// An unknown word, or too few or too many.
     Misuse,

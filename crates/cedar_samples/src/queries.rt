@@ -7,9 +7,9 @@ use cedar_typing::typecheck::PolicyCheck;
 use cedar_where::{AncestorTable, Refusal, SqlExpr, Table, joined, where_clause};
 use std::fs;
 
-/// Prints, for each environment of the schema of a file, the query of the resources that the policies of another file allow, and
-/// before that the tables that it is over. A set with two policies of one id, or with one that validation does not accept, has no
-/// query; nor is there one in an environment where some policy has no clause.
+/// Prints, for each environment of the schema of a file, the query of the resources that the policies of another file allow,
+/// and before it the tables that it needs. A set with two policies of one id, or with one that validation does not accept, has
+/// no query; nor has an environment in which some policy has no clause.
 pub fn run(rt: &HostRuntime, files: Files<'_>) -> Result<(), HostError> {
     let alloc = rt.alloc();
     let schema = schema(alloc, &fs::read_to_string(rt, files.schema)?)?;
@@ -26,7 +26,7 @@ pub fn run(rt: &HostRuntime, files: Files<'_>) -> Result<(), HostError> {
     Ok(())
 }
 
-/// Whether each policy is accepted in Strict. The findings against one that is not are printed.
+/// Whether each policy is accepted in Strict. The findings against a refused one are printed.
 fn are_accepted<C: ArgumentCheck>(
     rt: &HostRuntime,
     validator: &Validator<'_, C>,
@@ -109,7 +109,7 @@ fn print_query<C: ArgumentCheck>(
     Ok(())
 }
 
-/// The clauses of the policies in an environment. Why a policy has none is printed.
+/// The clauses of the policies in an environment. If a policy has none, the reason is printed.
 fn clauses_in<C: ArgumentCheck>(
     rt: &HostRuntime,
     schema: &ValidatorSchema,
@@ -129,16 +129,16 @@ fn clauses_in<C: ArgumentCheck>(
                 let clause = where_clause(alloc, schema, env, &typed)?;
                 add_clause(rt, &mut clauses, policy, clause)?;
             }
-            // it is never true here
+            // the policy is never true here
             PolicyCheck::Irrelevant(_errors, _typed) => {}
-            // no policy that is accepted fails
+            // no accepted policy fails
             PolicyCheck::Fail(_errors) => clauses.has_refusal = true,
         }
     }
     Ok(clauses)
 }
 
-/// Adds the clause of a policy, or prints why it has none.
+/// Adds the clause of a policy, or prints the reason why it has none.
 fn add_clause(
     rt: &HostRuntime,
     clauses: &mut Clauses,

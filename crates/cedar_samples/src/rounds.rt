@@ -14,10 +14,10 @@ use std::alloc::AllocError;
 use std::{fs, io};
 use thiserror::Error;
 
-/// How many steps the policies need: they were validated for slices of so many.
+/// The number of steps of the slices for which the policies were validated.
 const STEPS: u32 = 3;
 
-/// Why nothing is loaded.
+/// The reason why nothing is loaded.
 #[derive(Debug, Drop, Error)]
 pub enum LoadError {
     #[error(transparent)]
@@ -36,8 +36,8 @@ pub enum LoadError {
     OtherEntity(String, EntityUID),
 }
 
-/// What the files have of the entities that a request needs. Of each store that has of the ids that were asked for what their
-/// files have, and nothing where there is no file, that has the slice of three steps.
+/// The entities of the files that a request needs. They have the slice of three steps of each store that agrees with the files
+/// on the ids that were asked for, and has no entity for an id without a file.
 fn load(rt: &HostRuntime, schema: &ValidatorSchema, request: &Request) -> Result<Loaded, LoadError>
     ensures { IfOk result (λ loaded. HoldsSliceOf request.now 3 loaded) }
 {

@@ -1,4 +1,4 @@
-// The calls of a host with texts, in one place: they read schemas and policies, and check them.
+// Calls of a host with texts, in one place: they read schemas and policies, and check them.
 mod faults;
 mod written;
 

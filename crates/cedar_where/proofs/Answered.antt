@@ -1,4 +1,4 @@
--- What is promised of a clause, if there is one.
+-- The promise on a clause, if there is one.
 use Rattle.std.proofs.Common.{◌≡◌}
 use Rattle.std.specs.Prelude.{IfOk, Result, Ok, Err}
 use Rattle.std.specs.declared.alloc.AllocError.{AllocError}

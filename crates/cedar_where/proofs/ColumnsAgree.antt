@@ -1,4 +1,4 @@
--- The column of an attribute has what the resource has.
+-- Columns of attributes: each holds the value that the resource has.
 use Rattle.std.proofs.Common.{◌≡◌, Bool, true, false, ◌||◌, not, List, [], ◌∷◌, Option, Some, None, is_some, if◌then◌else◌, refl, sym, ap, subst, ◌∙◌}
 use Rattle.std.specs.Prelude.{IsTrue}
 use Rattle.cedar_types.specs.Lemmas.Comparisons.{path_same}
@@ -20,7 +20,7 @@ use Rattle.cedar_where.specs.Rows as rows
 use Rattle.cedar_where.specs.Sql.{Cell, Null, Truth, Data, Sql, sql_column, value, not_null_cell, uid}
 use Rattle.cedar_where.proofs.Parts.{Held, Answer, there, gone, outcome_of, cell_of, Agree, OnTerm, IsRight, if_plain, not_null_held}
 
--- ---- an entity has of an attribute what its type declares
+-- ---- an entity's attribute is as its type declares it
 
 module _ (s : Schema) (x : Text) where
   kind_at : (k : TypeKind) (p : Path) (e : Entity) → FitsKind s.types p k e
@@ -34,9 +34,9 @@ module _ (s : Schema) (x : Text) where
   declaration_at None u e h = tt
   declaration_at (Some t) u e h = kind_at t.kind u.entity_type e h
 
--- ---- a column has what the entity has
+-- ---- a column holds the entity's value
 
--- of an attribute that has a column
+-- for an attribute that has a column
 abbrev OfKind : Bool → Outcome → Cell → Option Kind → Type 0
 OfKind r o c None = Unit {0}
 OfKind r o c (Some k) = Agree k r o c

@@ -1,4 +1,4 @@
--- The clause of a condition means the condition.
+-- Clauses of conditions: each means its condition.
 use Rattle.std.proofs.Common.{◌≡◌, Bool, true, false, ◌↔◌, List, [], ◌∷◌, Option, Some, None, is_some, if◌then◌else◌, refl, sym, ap, subst, ◌∙◌}
 use Rattle.cedar_types.specs.declared.base.expressions.operators.Var.{Var}
 use Rattle.cedar_types.specs.Environments.{DeclaredEnv}
@@ -50,7 +50,7 @@ module _ (s : Schema) (env : DeclaredEnv) (world : World) (fits : FitsRequest en
   )
   variable_right Var.Context m = tt
 
-  -- what the resource has of an attribute is as its type declares it
+  -- the resource's attribute is as its type declares it
   declared : (x : Text) → AttrAt (declared_attribute s.types x env.resource) (entry_at x row.entity.attributes)
   declared x =
       subst (λ p. AttrAt (declared_attribute s.types x p) (entry_at x row.entity.attributes)) fits.resource
@@ -133,7 +133,7 @@ means_it s (Declared env ps rs) e sql h world fits conforms d row =
     clause_right d (eval world e) (compiled (scope_at s env) e) (part_right s env world fits.0 conforms d row e) sql h
 means_it s Undeclared e sql h world fits conforms d row = absurd fits
 
--- ---- which rows are chosen
+-- ---- the rows that are chosen
 
 true_outcome : (o : Outcome) (c : Cell) → IsOutcome o c → (c ≡ Truth true) ↔ IsTrueOutcome o
 true_outcome (Gives (VBool b)) c h = (λ e. cc, λ e. cc)

@@ -1,4 +1,4 @@
--- The entities that the members of a set are: those that are found so far, and those that are left.
+-- Entities in the members of a set: those that are found so far, and those that are left.
 use Rattle.std.proofs.Common.{◌≡◌, ◌<◌, ℕ, List, [], ◌∷◌, ◌++◌, map, Option, Some, None, option_map, refl, sym, ◌∙◌, ap, append_assoc}
 use Rattle.cedar_types.specs.declared.base.expressions.Expr.{Expr}
 use Rattle.cedar_types.specs.declared.base.names.entities.EntityUID.{EntityUID}
@@ -23,7 +23,7 @@ joined us u (Some vs) = ap Some (append_assoc us (u ∷ []) vs)
 
 module _ (us : List Uid) (x : Typed) (xs : List Typed) (o : Option EntityUID)
     (found : option_map uid_of o ≡ entity_literal (typed_tree x)) where
-  -- one more
+  -- one entity more
   pub one_entity : (u : EntityUID) → o ≡ Some u → after (us ++ uid_of u ∷ []) (literals_in xs) ≡ after us (literals_in (x ∷ xs))
   one_entity u h =
       joined us (uid_of u) (literals_in xs)

@@ -1,4 +1,4 @@
--- Operators on parts are right where their operands are.
+-- Operators on parts: each is right if its operands are.
 use Rattle.std.proofs.Common.{◌≡◌, Bool, true, false, ◌&&◌, ◌||◌, List, Option, Some, None, ℤ, if◌then◌else◌}
 use Rattle.std.proofs.Common.{[], ◌∷◌, refl, sym, ap, subst, ◌∙◌}
 use Rattle.std.specs.List.{list_any}
@@ -133,7 +133,7 @@ module _ (d : Data) where
 abbrev equal_outcome : Outcome → Outcome → Outcome
 equal_outcome o o' = on_value o (λ v. on_value o' (λ w. Gives (VBool (same_value v w))))
 
--- of one kind
+-- values of one kind
 equal_same : (k l : Kind) (r q : Bool) → same_kind k l ≡ true → (x : Answer k r) (y : Answer l q)
     → Agree KBool (r && q) (equal_outcome (outcome_of k r x) (outcome_of l q y))
     (equal_cells (cell_of k r x) (cell_of l q y))
@@ -149,7 +149,7 @@ equal_same KText l r q s (there a) (gone f e) = (gone f (right_gone r q e), refl
 equal_same (KEntity p) l r q s (there a) (gone f e) = (gone f (right_gone r q e), refl, refl)
 equal_same k l r q s (there a) (there b) = cc
 
--- of two kinds
+-- values of two kinds
 differ : (k l : Kind) → same_kind k l ≡ false → (v : Held k) (w : Held l)
     → same_value (value_held k v) (value_held l w) ≡ false
 differ KBool KBool s v w = cc

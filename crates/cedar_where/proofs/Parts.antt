@@ -1,4 +1,4 @@
--- What a part of a condition evaluates to, and what SQL has of it.
+-- Parts of a condition: their outcomes, and the cells of SQL for them.
 use Rattle.std.proofs.Common.{◌≡◌, Bool, true, false, ◌&&◌, ◌||◌, Option, Some, None, ℤ, refl, ap, ◌∙◌, if◌then◌else◌}
 use Rattle.cedar_types.specs.Names.{Text, Path}
 use Rattle.cedar_types.specs.Values.{Value, VBool, VLong, VString, VEntity}
@@ -6,7 +6,7 @@ use Rattle.cedar_typing.specs.Evaluation.World.{Failure, Outcome, Gives, Fails}
 use Rattle.cedar_where.specs.Compiled.{Kind, KBool, KLong, KText, KEntity, Term}
 use Rattle.cedar_where.specs.Sql.{Cell, Null, Truth, Integer, Words, Data, value, uid, null_beside, not_null_cell}
 
--- the values of a kind, by what SQL has of them
+-- the values of a kind, as SQL holds them
 abbrev pub Held : Kind → Type 0
 Held KBool = Bool
 Held KLong = ℤ
@@ -42,12 +42,12 @@ cell_of k r (gone f e) = Null
 abbrev pub Agree : Kind → Bool → Outcome → Cell → Type 0
 Agree k r o c = (x : Answer k r) × (o ≡ outcome_of k r x) × (c ≡ cell_of k r x)
 
--- what holds of a part that is compiled
+-- a property of a part, if it is compiled
 abbrev pub OnTerm : (Term → Type 0) → Option Term → Type 0
 OnTerm P None = Unit {0}
 OnTerm P (Some t) = P t
 
--- SQL has of a part what it evaluates to
+-- SQL holds the outcome of a part
 abbrev pub IsRight : Data → Outcome → Term → Type 0
 IsRight d o t = Agree t.kind t.is_total o (value d t.sql)
 
@@ -75,7 +75,7 @@ from_two f g k l m r q s h o o' c c' a b =
     let z = h a.0 b.0 in
     (z.0, ap_both f a.1 b.1 ∙ z.1, ap_both g a.2 b.2 ∙ z.2)
 
--- ---- cells that hold something
+-- ---- cells that hold a value
 
 pub not_null_held : (k : Kind) (v : Held k) → not_null_cell (cell_held k v) ≡ Truth true
 not_null_held KBool v = refl
@@ -93,7 +93,7 @@ pub null_beside_any : (k : Kind) (r : Bool) (x : Answer k r) → null_beside (ce
 null_beside_any k r (there v) = null_beside_held k v
 null_beside_any k r (gone f e) = refl
 
--- ---- two parts are total where both are
+-- ---- two parts are total if both are
 
 pub left_gone : (r q : Bool) → r ≡ false → (r && q) ≡ false
 left_gone true q h = cc

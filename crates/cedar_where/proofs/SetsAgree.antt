@@ -1,4 +1,4 @@
--- The query of a set is TRUE where an authoriser allows.
+-- The query of a set, which is TRUE exactly if an authoriser allows.
 use Rattle.std.proofs.Common.{◌≡◌, Bool, true, false, ◌&&◌, ◌||◌, not, List, [], ◌∷◌, fold, refl, sym, ap, ◌∙◌}
 use Rattle.cedar_where.specs.Sets.{IsTruthOrNull, AreTruthsOrNull, is_true, some_is_true, JoinsTheSet, any_true}
 use Rattle.cedar_where.specs.Sql.{Cell, Null, Truth, Integer, Words, Undefined, Data, Sql, sql_truth, sql_not, sql_and, sql_or}

@@ -1,4 +1,4 @@
--- Which expression of SQL a part of a condition has, and which parts have none.
+-- Expressions of SQL for parts of a condition, and the parts that have none.
 use Rattle.std.specs.Prelude.{Bool, true, false, not, ◌&&◌, List, [], ◌∷◌, Option, Some, None, option_map, nat_eq, if◌then◌else◌}
 use Rattle.std.specs.List.{list_any, list_all}
 use Rattle.cedar_types.specs.declared.base.expressions.operators.BinaryOp.{BinaryOp}
@@ -24,7 +24,7 @@ pub data Kind : Type 0 where
   KText : Kind
   KEntity : Path → Kind
 
--- an expression of SQL, of which kind it is, and whether it is never NULL
+-- an expression of SQL, its kind, and whether it is never NULL
 pub record Term : Type 0 where
   pub sql : Sql
   pub kind : Kind
@@ -56,7 +56,7 @@ abbrev pub is_text : Kind → Bool
 is_text KText = true
 is_text k = false
 
--- entities are compared by their ids where they are of one type
+-- entities are compared by their ids, so only those of one type may be
 abbrev pub same_kind : Kind → Kind → Bool
 same_kind KBool KBool = true
 same_kind KLong KLong = true
@@ -64,7 +64,7 @@ same_kind KText KText = true
 same_kind (KEntity p) (KEntity q) = path_eq p q
 same_kind k l = false
 
--- neither NUL nor a backslash
+-- a text has neither NUL nor a backslash
 abbrev pub is_plain : Text → Bool
 is_plain t = not (list_any (λ b. nat_eq b 0) t) && not (list_any (λ b. nat_eq b 92) t)
 
@@ -112,7 +112,7 @@ abbrev pub column_of_kind : Text → Bool → Option Kind → Option Term
 column_of_kind x r None = None
 column_of_kind x r (Some k) = if is_plain x then Some (term (sql_column x) k r) else None
 
--- an attribute by its type, and whether it is required, if it is declared
+-- an attribute by its type and by whether it is required, if it is declared
 abbrev pub column_term : Text → Option (Ty × Bool) → Option Term
 column_term x None = None
 column_term x (Some a) = column_of_kind x a.1 (column_kind a.0)
@@ -131,7 +131,8 @@ has_term s e x = has_column (attribute_term s e x)
 
 -- ---- operators
 
--- SQL's AND and OR where the left side is never NULL
+-- a conjunction is SQL's AND only if the left side is never NULL, because NULL AND FALSE is FALSE, and a failed left side fails
+-- the whole
 abbrev pub conjunction : Term → Term → Option Term
 conjunction a b =
     if is_bool a.kind && is_bool b.kind then
@@ -165,11 +166,11 @@ unary_term UnaryOp.Not x = not_term x
 unary_term UnaryOp.Neg x = None
 unary_term UnaryOp.IsEmpty x = None
 
--- the truth value where the test is TRUE, else NULL
+-- the truth value if the test is TRUE, else NULL
 abbrev pub unless_null : Sql → Bool → Sql
 unless_null t b = sql_case t (sql_truth b) sql_null
 
--- FALSE of two kinds, if neither side is NULL
+-- values of two kinds differ: FALSE if neither side is NULL
 abbrev pub difference : Term → Term → Term
 difference a b =
     if a.is_total && b.is_total then term (sql_truth false) KBool true
@@ -218,7 +219,7 @@ binary_term o None y = None
 abbrev pub plain_entity : Uid → Option Uid
 plain_entity u = if is_plain u.eid then Some u else None
 
--- the entity that a literal is, if its id is plain
+-- the entity of a literal, if its id is plain
 abbrev pub entity_literal : TypedTree → Option Uid
 entity_literal (lit m (entity u)) = plain_entity u
 entity_literal e = None
@@ -227,7 +228,7 @@ abbrev pub and_others : Option Uid → Option (List Uid) → Option (List Uid)
 and_others None r = None
 and_others (Some u) r = option_map (λ us. u ∷ us) r
 
--- the entities that all members of a set are, if each is written as one
+-- the entities of all members of a set, if each is written as one
 abbrev pub entity_literals : Trees Mark → Option (List Uid)
 entity_literals no_trees = Some []
 entity_literals (tree e ts) = and_others (entity_literal e) (entity_literals ts)
@@ -258,7 +259,7 @@ like_term (Some a) p =
     if is_text a.kind && is_plain_pattern p
     then Some (term (sql_matches a.sql p) KBool a.is_total) else None
 
--- a type test of an entity is decided by its type, if it is not NULL
+-- a type test of an entity is decided by its type, if the entity is not NULL
 abbrev pub type_test : Term → Bool → Option Term
 type_test a b =
     if a.is_total then Some (term (sql_truth b) KBool true)
@@ -298,7 +299,7 @@ compiled s (record_of m fs) = None
 
 -- ---- a whole condition
 
--- the clause is a truth value
+-- the clause of a condition is a truth value
 abbrev pub clause_of : Option Term → Option Sql
 clause_of None = None
 clause_of (Some a) = if is_bool a.kind then Some a.sql else None
@@ -312,7 +313,7 @@ scope_at s d = record {
   resource_type = TEntity (d.resource ∷ []);
 }
 
--- in an environment; nothing is known of the requests of undeclared actions
+-- the clause in an environment. There is none for undeclared actions, because nothing is known of their requests
 abbrev pub clause_at : Schema → Env → TypedTree → Option Sql
 clause_at s (Declared d ps rs) e = clause_of (compiled (scope_at s d) e)
 clause_at s Undeclared e = None

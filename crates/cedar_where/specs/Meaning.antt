@@ -12,7 +12,7 @@ use Rattle.cedar_typing.specs.TypedExpr.{TypedTree}
 use Rattle.cedar_where.specs.Rows.{IsRowOf}
 use Rattle.cedar_where.specs.Sql.{Cell, Null, Truth, Data, Sql, value}
 
--- a truth value and nothing else
+-- the cell is the truth value, and no other value has a cell here
 abbrev pub IsTruthOf : Value → Cell → Type 0
 IsTruthOf (VBool b) c = c ≡ Truth b
 IsTruthOf (VLong n) c = ⊥
@@ -22,13 +22,13 @@ IsTruthOf (VSet vs) c = ⊥
 IsTruthOf (VRecord es) c = ⊥
 IsTruthOf (VExtension n t) c = ⊥
 
--- TRUE of true, FALSE of false, and NULL where evaluation fails
+-- TRUE for true, FALSE for false, and NULL if evaluation fails
 abbrev pub IsOutcome : Outcome → Cell → Type 0
 IsOutcome (Gives v) c = IsTruthOf v c
 IsOutcome (Fails f) c = c ≡ Null
 
--- what holds of each request of the environment, over each store that conforms to the schema, and each row that holds the
--- resource of the request
+-- a property of each request of the environment, over each store that conforms to the schema, and each row that holds the
+-- request's resource
 abbrev pub OverRows : Schema → Env → (World → Data → Type 0) → Type 0
 OverRows s env P =
     (world : World) → Fits env world.request world.slots → ConformingStore s world.store
@@ -38,7 +38,7 @@ OverRows s env P =
 abbrev pub MeansTheCondition : Schema → Env → TypedTree → Sql → Type 0
 MeansTheCondition s env e sql = OverRows s env (λ world d. IsOutcome (eval world e) (value d sql))
 
--- a row is chosen exactly where the condition is true
+-- a row is chosen exactly if the condition is true
 abbrev pub ChoosesTheTrue : Schema → Env → TypedTree → Sql → Type 0
 ChoosesTheTrue s env e sql =
     OverRows s env (λ world d. (value d sql ≡ Truth true) ↔ IsTrueOutcome (eval world e))

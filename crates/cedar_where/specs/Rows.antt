@@ -1,4 +1,4 @@
--- Which row holds a resource, with the parameters beside it on which a query is run.
+-- The row of a resource, with the parameters beside it on which a query is run.
 use Rattle.std.specs.Prelude.{◌≡◌, Bool, Option, Some, None}
 use Rattle.cedar_types.specs.Names.{Text, Uid}
 use Rattle.cedar_types.specs.Values.{Value, VBool, VLong, VString, VEntity, VSet, VRecord, VExtension, entry_at}
@@ -7,8 +7,8 @@ use Rattle.cedar_typing.specs.Evaluation.Eval.{has_ancestor}
 use Rattle.cedar_typing.specs.Evaluation.World.{World}
 use Rattle.cedar_where.specs.Sql.{Cell, Null, Truth, Integer, Words, Undefined, Data}
 
--- what a column holds of a value: a truth value, a number, a text, of an entity its id; sets, records and values of extension
--- types have no column
+-- the cell of a value in a column: a truth value, a number, a text, or the id of an entity; sets, records and values of
+-- extension types have no column
 abbrev pub cell_of : Value → Cell
 cell_of (VBool b) = Truth b
 cell_of (VLong n) = Integer n
@@ -18,7 +18,7 @@ cell_of (VSet vs) = Undefined
 cell_of (VRecord es) = Undefined
 cell_of (VExtension n t) = Undefined
 
--- NULL where an entity lacks the attribute
+-- NULL if an entity lacks the attribute
 abbrev pub cell_at : Option Value → Cell
 cell_at None = Null
 cell_at (Some v) = cell_of v

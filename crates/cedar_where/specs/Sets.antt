@@ -4,7 +4,7 @@ use Rattle.std.specs.List.{list_any}
 use Rattle.cedar_where.specs.Sql.{Cell, Null, Truth, Integer, Words, Undefined, Data, Sql, sql_truth, sql_or, sql_is_true, value}
 use Rattle.std.specs.Prelude.{false}
 
--- TRUE, FALSE or NULL
+-- a cell is TRUE, FALSE or NULL
 abbrev pub IsTruthOrNull : Cell → Type 0
 IsTruthOrNull Null = Unit {0}
 IsTruthOrNull (Truth b) = Unit {0}
@@ -12,7 +12,7 @@ IsTruthOrNull (Integer n) = ⊥
 IsTruthOrNull (Words t) = ⊥
 IsTruthOrNull Undefined = ⊥
 
--- as each of some clauses is over the data, and as a clause is that means a condition
+-- each clause is TRUE, FALSE or NULL over the data, as each clause is that means a condition
 abbrev pub AreTruthsOrNull : Data → List Sql → Type 0
 AreTruthsOrNull d [] = Unit {0}
 AreTruthsOrNull d (c ∷ cs) = IsTruthOrNull (value d c) × AreTruthsOrNull d cs
@@ -25,13 +25,13 @@ is_true c = false
 abbrev pub some_is_true : Data → List Sql → Bool
 some_is_true d cs = list_any (λ c. is_true (value d c)) cs
 
--- the query is TRUE where some permit's clause is TRUE and no forbid's is, and else FALSE
+-- the query is TRUE if some permit's clause is TRUE and no forbid's is, else FALSE
 abbrev pub JoinsTheSet : List Sql → List Sql → Sql → Type 0
 JoinsTheSet permits forbids query =
     (d : Data) → AreTruthsOrNull d permits → AreTruthsOrNull d forbids
     → value d query ≡ Truth (some_is_true d permits && not (some_is_true d forbids))
 
--- ---- its form
+-- ---- the form of the query
 
 -- some clause is TRUE
 abbrev pub any_true : List Sql → Sql

@@ -13,7 +13,7 @@ pub data Cell : Type 0 where
   Truth : Bool → Cell
   Integer : ℤ → Cell
   Words : Text → Cell
-  -- where cells of two kinds meet, on which systems differ; no clause comes to it
+  -- the cell of two kinds that meet, on which systems differ; no clause gives it
   Undefined : Cell
 
 -- the data on which a query is run
@@ -32,7 +32,7 @@ pub data Sql : Type 0 where
   sql_truth : Bool → Sql
   sql_number : ℤ → Sql
   sql_text : Text → Sql
-  -- the column of an attribute, that of the row's own id, the parameter
+  -- the column of an attribute, the column of the row's own id, the parameter
   sql_column : Text → Sql
   sql_own_id : Sql
   sql_principal : Sql
@@ -51,7 +51,7 @@ pub data Sql : Type 0 where
   sql_is_true : Sql → Sql
   -- whether a text matches a pattern
   sql_matches : Sql → List PatternElem → Sql
-  -- whether the entity of a type and an id is another, or has it as an ancestor
+  -- whether the entity of a type and an id is another, or has that as an ancestor
   sql_is_in : Path → Sql → Path → Sql → Sql
   -- whether the entity of a type and an id is one of some entities, or has one as an ancestor
   sql_is_in_any : Path → Sql → List Uid → Sql
@@ -64,19 +64,19 @@ not_cell Null = Null
 not_cell (Truth b) = Truth (not b)
 not_cell c = Undefined
 
--- the second where the first is TRUE
+-- the second cell if the first is TRUE
 abbrev pub and_true : Cell → Cell
 and_true Null = Null
 and_true (Truth b) = Truth b
 and_true c = Undefined
 
--- FALSE, if the other is a truth value or NULL
+-- FALSE, if the other cell is a truth value or NULL
 abbrev pub and_false : Cell → Cell
 and_false Null = Truth false
 and_false (Truth b) = Truth false
 and_false c = Undefined
 
--- FALSE where the second is, else NULL
+-- FALSE if the second cell is FALSE, else NULL
 abbrev pub and_null : Cell → Cell
 and_null Null = Null
 and_null (Truth true) = Null
@@ -89,13 +89,13 @@ and_cells (Truth false) d = and_false d
 and_cells Null d = and_null d
 and_cells c d = Undefined
 
--- TRUE, if the other is a truth value or NULL
+-- TRUE, if the other cell is a truth value or NULL
 abbrev pub or_true : Cell → Cell
 or_true Null = Truth true
 or_true (Truth b) = Truth true
 or_true c = Undefined
 
--- TRUE where the second is, else NULL
+-- TRUE if the second cell is TRUE, else NULL
 abbrev pub or_null : Cell → Cell
 or_null Null = Null
 or_null (Truth true) = Truth true
@@ -108,19 +108,19 @@ or_cells (Truth false) d = and_true d
 or_cells Null d = or_null d
 or_cells c d = Undefined
 
--- the first where the test is TRUE, the second where it is FALSE, and NULL where it is NULL
+-- the first cell if the test is TRUE, the second if it is FALSE, and NULL if it is NULL
 abbrev pub case_cell : Cell → Cell → Cell → Cell
 case_cell (Truth true) c d = c
 case_cell (Truth false) c d = d
 case_cell Null c d = Null
 case_cell t c d = Undefined
 
--- NULL, if the other is a cell at all
+-- NULL, if the other cell is defined
 abbrev pub null_beside : Cell → Cell
 null_beside Undefined = Undefined
 null_beside c = Null
 
--- a comparison: of NULL it is NULL; of two cells of one kind it tells; texts are compared byte by byte
+-- a comparison: NULL if a cell is NULL; it is told for two cells of one kind; texts are compared byte by byte
 abbrev pub equal_cells : Cell → Cell → Cell
 equal_cells Null d = null_beside d
 equal_cells c Null = null_beside c
@@ -129,7 +129,7 @@ equal_cells (Integer m) (Integer n) = Truth (int_eq m n)
 equal_cells (Words s) (Words t) = Truth (text_eq s t)
 equal_cells c d = Undefined
 
--- by the order of numbers, which alone are compared so
+-- a comparison by the order of numbers, which only numbers have here
 abbrev pub ordered_cells : (ℤ → ℤ → Bool) → Cell → Cell → Cell
 ordered_cells test Null d = null_beside d
 ordered_cells test c Null = null_beside c
@@ -152,14 +152,14 @@ matches_cell p Null = Null
 matches_cell p (Words t) = Truth (matches p t)
 matches_cell p c = Undefined
 
--- a test of two ids; NULL where one of them is
+-- a test of two ids; NULL if one of them is
 abbrev pub ids_cell : (Text → Text → Bool) → Cell → Cell → Cell
 ids_cell test Null d = null_beside d
 ids_cell test c Null = null_beside c
 ids_cell test (Words s) (Words t) = Truth (test s t)
 ids_cell test c d = Undefined
 
--- a test of an id; NULL where it is
+-- a test of an id; NULL if the id is
 abbrev pub id_cell : (Text → Bool) → Cell → Cell
 id_cell test Null = Null
 id_cell test (Words s) = Truth (test s)
@@ -170,15 +170,15 @@ id_cell test c = Undefined
 abbrev pub uid : Path → Text → Uid
 uid p t = record { entity_type = p; eid = t }
 
--- the one is the other, or the table of ancestors has the other as its ancestor
+-- the first entity is the second, or the table of ancestors has the second as its ancestor
 abbrev pub is_within : Data → Uid → Uid → Bool
 is_within d u v = uid_eq u v || d.has_ancestor u v
 
--- the same of ids, whose types are given
+-- membership of ids, whose types are given
 abbrev pub is_id_within : Data → Path → Path → Text → Text → Bool
 is_id_within d p q s t = is_within d (uid p s) (uid q t)
 
--- of one of some entities
+-- membership of an id in one of some entities
 abbrev pub is_id_within_any : Data → Path → List Uid → Text → Bool
 is_id_within_any d p us s = list_any (is_within d (uid p s)) us
 

@@ -1,4 +1,4 @@
--- Which columns the table of an entity type has.
+-- Columns of the table of an entity type.
 use Rattle.std.specs.Prelude.{Bool, List, [], ◌∷◌, Option, Some, None}
 use Rattle.cedar_types.specs.Names.{Text, text_of}
 use Rattle.cedar_types.specs.Types.{Attrs, no_attrs, attr}
@@ -6,7 +6,7 @@ use Rattle.cedar_where.specs.declared.tables.Column.{Column}
 use Rattle.cedar_where.specs.declared.tables.ColumnType.{ColumnType}
 use Rattle.cedar_where.specs.Compiled.{Kind, KBool, KLong, KText, KEntity, column_kind}
 
--- a column: the attribute that it holds, as which type, and whether it is NOT NULL
+-- a column: its attribute, its type, and whether it is NOT NULL
 pub record Holder : Type 0 where
   pub attribute : Text
   pub column_type : ColumnType
@@ -19,11 +19,11 @@ column_type KLong = ColumnType.Long
 column_type KText = ColumnType.Text
 column_type (KEntity p) = ColumnType.Entity
 
--- an attribute has a column where a column holds its kind: NOT NULL where the attribute is required
+-- an attribute has a column if a column can hold its kind: NOT NULL if the attribute is required
 abbrev pub holder : Text → Bool → Kind → Holder
 holder x r k = record { attribute = x; column_type = column_type k; is_required = r }
 
--- before those of the others
+-- an attribute's column comes before those of the others
 abbrev pub and_columns : Text → Bool → Option Kind → List Holder → List Holder
 and_columns x r None cs = cs
 and_columns x r (Some k) cs = holder x r k ∷ cs
@@ -42,7 +42,7 @@ abbrev pub left_out : Attrs → List Text
 left_out no_attrs = []
 left_out (attr x t r xs) = and_left_out x (column_kind t) (left_out xs)
 
--- ---- of the program
+-- ---- columns of the program
 
 abbrev pub holder_of : Column → Holder
 holder_of c = record { attribute = text_of c.attribute; column_type = c.column_type; is_required = c.is_required }

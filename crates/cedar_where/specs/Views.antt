@@ -1,4 +1,4 @@
--- The plain data for which the values of the program stand.
+-- Plain data for which the values of the program stand.
 use Rattle.std.specs.Prelude.{Option, Some, None, Result, Ok, Err, map}
 use Rattle.cedar_types.specs.Names.{text_of, type_of, uid_of}
 use Rattle.cedar_types.specs.Schemas.Contents.{schema_of}
@@ -52,7 +52,7 @@ kind_of (kind.Entity p) = KEntity (type_of p)
 abbrev pub term_of : Term → plain.Term
 term_of t = record { sql = sql_of t.sql.value; kind = kind_of t.kind; is_total = t.is_total }
 
--- a part that is compiled, if it is
+-- a part, if it is compiled
 abbrev pub term_in : Result Term Refusal → Option plain.Term
 term_in (Ok t) = Some (term_of t)
 term_in (Err r) = None

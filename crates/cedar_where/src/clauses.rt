@@ -1,4 +1,4 @@
-// The where-clause of a typed condition.
+// Where-clauses of typed conditions.
 ghost use Rattle.std.specs.Prelude.{◌≡◌, IfOk};
 ghost use Rattle.cedar_types.specs.Environments.RequestEnvs.{env_of};
 ghost use Rattle.cedar_types.specs.Schemas.Contents.{schema_of};
@@ -16,13 +16,13 @@ use cedar_types::base::{CedarType, Loc, ValidatorSchema};
 use cedar_types::types::request_env::RequestEnv;
 use std::alloc::{AllocError, Global};
 
-/// The where-clause of a typed condition over the table of its environment's resource type, or the part of the condition that has
-/// none, and why.
+/// The where-clause of a typed condition over the table of its environment's resource type, or the part of the condition that
+/// has none, with the reason.
 ///
-/// Over a row that holds the resource of a request of the environment (`IsRowOf`), with the principal's id as the parameter, the
-/// clause is TRUE where the condition is true, FALSE where it is false, and NULL where its evaluation fails (clause `means`). So a
-/// row is chosen exactly where the condition is true (clause `chosen`). Which conditions have a clause, and which one, is said by
-/// `clause_at` (clause `exact`). Where memory is refused, the answer is an `AllocError`.
+/// Over a row that holds the resource of a request of the environment (`IsRowOf`), with the principal's id as the parameter,
+/// the clause is TRUE if the condition is true, FALSE if it is false, and NULL if its evaluation fails (clause `means`). So a
+/// row is chosen exactly if the condition is true (clause `chosen`). `clause_at` tells which conditions have a clause, and
+/// which one it is (clause `exact`). If memory is refused, the answer is an `AllocError`.
 pub fn where_clause(
     alloc: Global,
     schema: &ValidatorSchema,

@@ -41,7 +41,7 @@ pub(crate) fn attribute_term(
     }
 }
 
-/// The column of an attribute, whose type and whether it is required the schema says, if it declares the attribute.
+/// The column of an attribute, by its type and by whether it is required, if the schema declares the attribute.
 fn column_term(
     alloc: Global,
     loc: Option<Loc>,

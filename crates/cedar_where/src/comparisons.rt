@@ -1,4 +1,4 @@
-// `==`, `<` and `<=` of parts that are compiled.
+// Comparisons of compiled parts: `==`, `<` and `<=`.
 ghost use Rattle.std.specs.Prelude.{◌≡◌, IfOk};
 ghost use Rattle.cedar_where.specs.Compiled.{equality, less, less_or_equal, unless_null};
 ghost use Rattle.cedar_where.specs.Views.{sql_of, term_of, term_in};
@@ -32,7 +32,7 @@ pub(crate) fn equality(alloc: Global, left: Term, right: Term) -> Result<Compile
     made(alloc, sql, Kind::Bool, false)
 }
 
-/// This truth value where the test is TRUE, and NULL where it is FALSE.
+/// This truth value if the test is TRUE, and NULL if it is FALSE.
 pub(crate) fn unless_null(alloc: Global, test: SqlExpr, truth: bool) -> Result<SqlExpr, AllocError>
     ensures { IfOk result (λ e. unless_null (sql_of test) truth ≡ sql_of e) }
 {

@@ -1,4 +1,4 @@
-// The expression of SQL for a part of a condition.
+// Compilation of a part of a condition to an expression of SQL.
 ghost use Rattle.std.specs.Prelude.{◌≡◌, IfOk};
 ghost use Rattle.cedar_typing.specs.TypedExpr.{typed_tree};
 ghost use Rattle.cedar_where.specs.Compiled.{compiled};

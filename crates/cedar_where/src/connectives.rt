@@ -1,4 +1,4 @@
-// `&&`, `||` and `!` on parts that are compiled.
+// Connectives of compiled parts: `&&`, `||` and `!`.
 ghost use Rattle.std.specs.Prelude.{◌≡◌, IfOk};
 ghost use Rattle.cedar_where.specs.Compiled.{and_term, or_term, not_term, conjunction, disjunction};
 ghost use Rattle.cedar_where.specs.Views.{term_of, term_in};
@@ -9,7 +9,8 @@ use crate::terms::{Compiled, Kind, Term, made, refused};
 use cedar_types::base::Loc;
 use std::alloc::{AllocError, Global};
 
-/// `a && b`: SQL's AND where the left side is never NULL, since it is FALSE where one side is NULL and the other FALSE.
+/// `a && b`: SQL's AND only if the left side is never NULL, because NULL AND FALSE is FALSE, and a left side that fails must
+/// fail the whole.
 pub(crate) fn and_term(
     alloc: Global,
     loc: Option<Loc>,
@@ -55,7 +56,8 @@ fn conjunction(
     made(alloc, sql, Kind::Bool, is_total)
 }
 
-/// `a || b`: SQL's OR where the left side is never NULL, since it is TRUE where one side is NULL and the other TRUE.
+/// `a || b`: SQL's OR only if the left side is never NULL, because NULL OR TRUE is TRUE, and a left side that fails must fail
+/// the whole.
 pub(crate) fn or_term(
     alloc: Global,
     loc: Option<Loc>,

@@ -1,8 +1,8 @@
-//! Where-clauses of SQL for typed conditions: a row of a table is chosen exactly where the condition is true for the resource that
-//! the row holds.
+//! Where-clauses of SQL for typed conditions: a row of a table is chosen exactly if the condition is true for the resource in
+//! the row.
 //!
-//! Proved: the meaning of a clause as a tree (`SqlExpr`, `specs/Sql.antt`). Only tested, against SQLite: the text of a tree and of a
-//! table, and that SQLite evaluates the text as the tree says.
+//! Proved: the meaning of a clause as a tree (`SqlExpr`, `specs/Sql.antt`). Only tested, against SQLite: the text of a tree and
+//! of a table, and that SQLite evaluates the text as the tree says.
 #![tactic(auto)]
 
 mod clauses;

@@ -1,4 +1,4 @@
-// `in`.
+// Membership of compiled parts: `in`.
 ghost use Rattle.std.specs.Prelude.{◌≡◌, IfOk, map, option_map};
 ghost use Rattle.cedar_types.specs.Expressions.View.{trees_of};
 ghost use Rattle.cedar_types.specs.Names.{uid_of};
@@ -48,7 +48,7 @@ pub(crate) fn in_term(
     }
 }
 
-/// `a in [..]` of some entities, if each member of the set is one.
+/// `a in [..]` for some entities, if each member of the set is one.
 pub(crate) fn in_any(
     alloc: Global,
     loc: Option<Loc>,
@@ -94,7 +94,7 @@ fn in_any_of(
     }
 }
 
-/// The entities that the members of a set are, if each is written as one.
+/// The entities in the members of a set, if each is written as one.
 pub(crate) fn entity_literals(
     alloc: Global,
     members: &[Typed],

@@ -1,4 +1,4 @@
-// Operators on parts that are compiled.
+// Operators on compiled parts.
 ghost use Rattle.std.specs.Prelude.{◌≡◌, IfOk};
 ghost use Rattle.cedar_typing.specs.TypedExpr.{typed_tree};
 ghost use Rattle.cedar_where.specs.Compiled.{binary_of_terms, binary_term, in_operand, operator_term, unary_term};
@@ -28,7 +28,7 @@ pub(crate) fn unary_term(
     }
 }
 
-/// An operator on two parts: the right side of `in` may be a set of entities.
+/// An operator on two parts. The right side of `in` may be a set of entities.
 pub(crate) fn operator_term(
     alloc: Global,
     loc: Option<Loc>,
@@ -61,6 +61,7 @@ fn in_operand(
 {
     match &right.kind {
         ExprKind::Set(members) => {
+            // a set has no clause of its own, so the right side as a whole is not looked at
             let (left, _) = sides;
             in_any(alloc, loc, left, entity_literals(alloc, members)?)
         }

@@ -1,16 +1,16 @@
-// Why a condition has no where-clause.
+// Reasons why a condition has no where-clause.
 use cedar_types::base::Loc;
 use std::fmt;
 
-/// The part of a condition that has no clause, and why.
+/// The part of a condition that has no clause, with the reason.
 #[derive(Clone, Copy, PartialEq, Eq, Debug)]
 pub struct Refusal {
-    /// Where the part stands in the policy's text, if it was read from one.
+    /// The place of the part in the policy's text, if it was read from one.
     pub loc: Option<Loc>,
     pub reason: Reason,
 }
 
-/// Why a part of a condition has no clause.
+/// The reason why a part of a condition has no clause.
 #[derive(Clone, Copy, PartialEq, Eq, Debug)]
 pub enum Reason {
     /// Nothing is known of the requests of an undeclared action.

@@ -1,7 +1,7 @@
-// The scope in which a condition is compiled.
+// Scopes in which a condition is compiled.
 use cedar_types::base::{CedarType, EntityType, EntityUID, Expr, ValidatorSchema};
 
-/// An expression with the types that were found.
+/// An expression with the types that typing found.
 pub(crate) type Typed = Expr<Option<CedarType>>;
 
 /// A schema, and the environment of the requests.

@@ -1,4 +1,4 @@
-// The joined query of a set of policies.
+// Joined queries of sets of policies.
 ghost use Rattle.std.specs.Prelude.{◌≡◌, IfOk, map};
 ghost use Rattle.cedar_where.specs.Sets.{JoinsTheSet, any_true};
 ghost use Rattle.cedar_where.specs.Views.{sql_of};
@@ -6,9 +6,9 @@ ghost use Rattle.cedar_where.specs.Views.{sql_of};
 use crate::sql::SqlExpr;
 use std::alloc::{AllocError, Global};
 
-/// The query of a set, of the clauses of its permits and of its forbids: TRUE where some permit's clause is TRUE and no forbid's is,
-/// and else FALSE, also where a clause is NULL. So a policy whose evaluation fails is left out, as an authoriser does. Where memory
-/// is refused, the answer is an `AllocError`.
+/// The query of a set, from the clauses of its permits and of its forbids: TRUE if some permit's clause is TRUE and no forbid's
+/// is, and else FALSE, even if a clause is NULL. So a policy whose evaluation fails is left out, as an authoriser does. If
+/// memory is refused, the answer is an `AllocError`.
 pub fn joined(
     alloc: Global,
     permits: Vec<SqlExpr>,
@@ -23,7 +23,7 @@ pub fn joined(
     Ok(SqlExpr::And(permitted, not_forbidden))
 }
 
-/// Whether some clause is TRUE, each with IS TRUE.
+/// A test whether some clause is TRUE, each with IS TRUE.
 fn any_true(alloc: Global, clauses: Vec<SqlExpr>) -> Result<SqlExpr, AllocError>
     ensures { IfOk result (λ e. sql_of e ≡ any_true (map sql_of clauses.items)) }
 {

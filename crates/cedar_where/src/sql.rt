@@ -3,7 +3,7 @@ use cedar_types::base::{EntityType, EntityUID, PatternElem};
 use std::rc::RcStr;
 
 /// An expression of SQL over a row of the table of the resources, with a parameter for the principal's id and a table of
-/// ancestors. `Display` writes its text. It is dropped by a recursion as deep as the tree.
+/// ancestors. `Display` writes its text. A recursion as deep as the tree drops it.
 #[derive(Debug)]
 pub enum SqlExpr {
     /// `NULL`.
@@ -26,7 +26,7 @@ pub enum SqlExpr {
     And(Box<SqlExpr>, Box<SqlExpr>),
     /// `a OR b`.
     Or(Box<SqlExpr>, Box<SqlExpr>),
-    /// `CASE test WHEN TRUE THEN a WHEN FALSE THEN b END`: NULL where the test is.
+    /// `CASE test WHEN TRUE THEN a WHEN FALSE THEN b END`: NULL if the test is NULL.
     Case {
         test: Box<SqlExpr>,
         then: Box<SqlExpr>,
@@ -40,19 +40,19 @@ pub enum SqlExpr {
     LessOrEqual(Box<SqlExpr>, Box<SqlExpr>),
     /// `a IS NOT NULL`.
     IsNotNull(Box<SqlExpr>),
-    /// `a IS TRUE`: FALSE where it is NULL.
+    /// `a IS TRUE`: FALSE if `a` is NULL.
     IsTrue(Box<SqlExpr>),
     /// Whether a text matches a pattern.
     Matches(Box<SqlExpr>, Vec<PatternElem>),
-    /// Whether the first entity is the second, or the table of ancestors has the second as an ancestor of the first; NULL where an id
-    /// is.
+    /// Whether the first entity is the second, or the table of ancestors has the second as an ancestor of the first; NULL if an
+    /// id is.
     IsIn {
         entity_type: EntityType,
         eid: Box<SqlExpr>,
         ancestor_type: EntityType,
         ancestor_eid: Box<SqlExpr>,
     },
-    /// Whether the entity is one of these, or the table of ancestors has one of these as its ancestor; NULL where its id is.
+    /// Whether the entity is one of these, or the table of ancestors has one of these as its ancestor; NULL if its id is.
     IsInAny {
         entity_type: EntityType,
         eid: Box<SqlExpr>,
@@ -60,7 +60,7 @@ pub enum SqlExpr {
     },
 }
 
-// By hand, so that a proof has one call where an expression is dropped.
+// Dropped by hand, so that a proof has one call for the drop of an expression.
 impl Drop for SqlExpr {
     fn drop(self) {
         match self {

@@ -1,4 +1,4 @@
-// The table of an entity type.
+// Tables of entity types.
 ghost use Rattle.std.specs.Prelude.{◌≡◌, IfOk, [], ◌∷◌, map};
 ghost use Rattle.cedar_types.specs.Names.{text_of, type_of};
 ghost use Rattle.cedar_types.specs.Schemas.Contents.{schema_of};
@@ -31,7 +31,7 @@ pub enum ColumnType {
     Entity,
 }
 
-/// A column, by the attribute that it holds. One that is required is never NULL.
+/// A column with its attribute. The column of a required attribute is never NULL.
 #[derive(Debug, Drop)]
 pub struct Column {
     pub attribute: RcStr,
@@ -39,7 +39,7 @@ pub struct Column {
     pub is_required: bool,
 }
 
-/// The table of the entities of a type, a row for each: the column `eid` has its id, and each other one an attribute.
+/// The table of the entities of a type, a row for each: the column `eid` holds its id, and each other column an attribute.
 #[derive(Debug, Drop)]
 pub struct Table {
     pub name: String,
@@ -48,12 +48,12 @@ pub struct Table {
     pub left_out: Vec<RcStr>,
 }
 
-/// Why an entity type has no table.
+/// The reason why an entity type has no table.
 #[derive(Clone, PartialEq, Eq, Debug, Drop)]
 pub enum TableFault {
-    /// The name of an attribute with NUL or a backslash.
+    /// The name of an attribute has NUL or a backslash.
     Text(RcStr),
-    /// The name of an attribute that is another's, or `eid`, but for upper and lower case, which SQL does not tell apart.
+    /// The name of an attribute equals another's, or `eid`, in all but upper and lower case, which SQL does not tell apart.
     SameName(RcStr),
 }
 
@@ -72,10 +72,10 @@ impl fmt::Display for TableFault {
 }
 
 impl Table {
-    /// The table of the entities of this type, or why there is none. It has a column for each attribute of a truth value, a number, a
-    /// text or an entity of one type, in the order of their names, which is required where the attribute is (clause `columns`); the
-    /// other attributes are left out (clause `left_out`). No clause says which types have no table. Where memory is refused, the
-    /// answer is an `AllocError`.
+    /// The table of the entities of this type, or the reason why there is none. It has a column for each attribute that is a
+    /// truth value, a number, a text or an entity of one type, in the order of their names; the column is required if the
+    /// attribute is (clause `columns`). The other attributes are left out (clause `left_out`). No clause tells which types have
+    /// no table. If memory is refused, the answer is an `AllocError`.
     pub fn of_type(
         alloc: Global,
         schema: &ValidatorSchema,
@@ -128,7 +128,7 @@ fn column_type(kind: &Kind) -> ColumnType
     }
 }
 
-/// Whether a column has the name, but for upper and lower case.
+/// Whether a column has the name, in all but upper and lower case.
 fn is_taken(columns: &[Column], name: &str) -> bool {
     name.eq_ignore_ascii_case(ID_COLUMN)
         || columns.iter().any(|column| column.attribute.as_str().eq_ignore_ascii_case(name))

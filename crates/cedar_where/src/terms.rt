@@ -1,4 +1,4 @@
-// Parts of a condition, compiled.
+// Compiled parts of a condition.
 ghost use Rattle.std.specs.Prelude.{◌≡◌, Some, None, IfOk};
 ghost use Rattle.cedar_types.specs.Names.{path_eq, type_of};
 ghost use Rattle.cedar_where.specs.Compiled.{is_bool, is_long, is_text, same_kind};
@@ -18,20 +18,20 @@ pub(crate) enum Kind {
     Long,
     /// A text.
     Text,
-    /// An entity of this type, of which SQL has the id.
+    /// An entity of this type, whose id SQL holds.
     Entity(EntityType),
 }
 
-/// A part of a condition, compiled.
+/// A compiled part of a condition.
 #[derive(Drop)]
 pub(crate) struct Term {
     pub(crate) sql: Box<SqlExpr>,
     pub(crate) kind: Kind,
-    /// Whether it is never NULL.
+    /// Whether the expression is never NULL.
     pub(crate) is_total: bool,
 }
 
-/// A part of a condition, or which part of it has no clause.
+/// A compiled part of a condition, or the part within it that has no clause.
 pub(crate) type Compiled = Result<Term, Refusal>;
 
 /// The expression, of this kind.

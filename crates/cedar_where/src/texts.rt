@@ -1,10 +1,11 @@
-// The texts of expressions and of tables, for SQLite. No contract says that a text has the meaning of its tree: that is only tested.
+// Texts of expressions and of tables, for SQLite. No contract says that a text has the meaning of its tree: that is only
+// tested.
 use crate::sql::SqlExpr;
 use crate::tables::{Column, ColumnType, ID_COLUMN, Table};
 use cedar_types::base::{EntityType, EntityUID, PatternElem};
 use std::fmt;
 
-/// The table of ancestors. No entity type has a blank in its name.
+/// The name of the table of ancestors. It has a blank, because no entity type does.
 const ANCESTORS: &str = "entity ancestors";
 
 /// A text that SQL reads back.
@@ -27,7 +28,7 @@ impl fmt::Display for SqlText<'_> {
     }
 }
 
-/// Columns are qualified, since SQLite takes a quoted name that the table lacks for a text.
+/// Writes an expression. Columns are qualified, because SQLite takes a quoted name that the table lacks for a text.
 fn write_expr<W: fmt::Write>(f: &mut fmt::Formatter<W>, table: &str, e: &SqlExpr) -> fmt::Result {
     match e {
         SqlExpr::Null => write!(f, "NULL"),
@@ -164,7 +165,7 @@ fn write_ids_of_type<W: fmt::Write>(
     Ok(())
 }
 
-/// Whether there is an ancestor of an entity of this type, up to the entity's id.
+/// Writes the beginning of a query for an ancestor of an entity of this type, up to the entity's id.
 fn write_ancestor_query<W: fmt::Write>(
     f: &mut fmt::Formatter<W>,
     entity_type: &EntityType,
@@ -174,7 +175,7 @@ fn write_ancestor_query<W: fmt::Write>(
     write!(f, "\"{ANCESTORS}\".\"eid\" = ")
 }
 
-/// And whether the ancestor is of this type and has an id, up to the id.
+/// Writes the condition that the ancestor is of this type and has an id, up to the id.
 fn write_ancestor<W: fmt::Write>(
     f: &mut fmt::Formatter<W>,
     ancestor_type: &EntityType,
@@ -196,7 +197,7 @@ fn write_column<W: fmt::Write>(
     write_quoted(f, '"', column)
 }
 
-/// A text in these marks, where a mark within it is doubled.
+/// Writes a text in these marks. A mark within it is doubled.
 fn write_quoted<W: fmt::Write>(f: &mut fmt::Formatter<W>, mark: char, text: &str) -> fmt::Result {
     write!(f, "{mark}")?;
     for c in text.chars() {
@@ -208,7 +209,7 @@ fn write_quoted<W: fmt::Write>(f: &mut fmt::Formatter<W>, mark: char, text: &str
     write!(f, "{mark}")
 }
 
-/// A pattern of GLOB, in which `*`, `?` and `[` stand for themselves within brackets.
+/// Writes a pattern of GLOB, in which `*`, `?` and `[` stand for themselves within brackets.
 fn write_pattern<W: fmt::Write>(f: &mut fmt::Formatter<W>, pattern: &[PatternElem]) -> fmt::Result {
     write!(f, "'")?;
     for elem in pattern {
@@ -223,7 +224,7 @@ fn write_pattern<W: fmt::Write>(f: &mut fmt::Formatter<W>, pattern: &[PatternEle
 }
 
 impl fmt::Display for Table {
-    /// `CREATE TABLE`: a clause chooses the right rows of this table alone.
+    /// Writes `CREATE TABLE`. A clause chooses the right rows only of this table.
     fn fmt<W: fmt::Write>(&self, f: &mut fmt::Formatter<W>) -> fmt::Result {
         write!(f, "CREATE TABLE ")?;
         write_quoted(f, '"', self.name.as_str())?;
@@ -262,8 +263,8 @@ impl fmt::Display for Column {
     }
 }
 
-/// The table of ancestors as a text: a row for each entity and each of its ancestors, of all entities that a clause names, or that
-/// an attribute or the parameter may be.
+/// The table of ancestors as a text: a row for each entity and each of its ancestors, for all entities that a clause names, and
+/// for those that an attribute or the parameter may be.
 #[derive(Clone, Copy)]
 pub struct AncestorTable;
 

@@ -1,4 +1,4 @@
-// `like` and `is` of parts that are compiled.
+// Tests of compiled parts: `like` and `is`.
 ghost use Rattle.std.specs.Prelude.{◌≡◌, IfOk};
 ghost use Rattle.cedar_types.specs.Names.{type_of};
 ghost use Rattle.cedar_where.specs.Compiled.{like_term, is_term, is_of_kind, type_test};
@@ -37,7 +37,7 @@ pub(crate) fn like_term(
     }
 }
 
-/// `a is T`, which the type of an entity decides.
+/// `a is T`: the type that typing found decides it, because SQL holds only the id of an entity.
 pub(crate) fn is_term(
     alloc: Global,
     loc: Option<Loc>,

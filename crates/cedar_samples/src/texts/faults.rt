@@ -1,11 +1,11 @@
-// Why a host of texts cannot go on.
+// Reasons why a host of texts cannot go on.
 use cedar_reading::{ReadError, SchemaReadError};
 use cedar_types::base::{ExtensionTableError, PolicyID};
 use std::alloc::AllocError;
 use std::io;
 use thiserror::Error;
 
-/// The reason for which a host cannot go on: the first that was found.
+/// The reason why a host cannot go on: the first one found.
 #[derive(Debug, Drop, Error)]
 pub enum HostError {
     #[error(transparent)]
@@ -19,7 +19,7 @@ pub enum HostError {
     Policies(#[from] ReadError),
     #[error("the functions have no table: {0}")]
     Functions(#[from] ExtensionTableError),
-    /// Links and findings name a policy by its id.
+    /// Two policies have one id, and links and findings name a policy by its id.
     #[error("more than one policy has the id {0}")]
     RepeatedId(PolicyID),
 }

@@ -4,7 +4,7 @@ use Rattle.std.specs.Vec.Iter.{into_iter_items, into_iter_len}
 use Rattle.cedar_samples.specs.Decisions.{is_accepted, is_refused}
 use Rattle.cedar_samples.proofs.gate.decide.Given as goal
 
--- of the reports so far the accepted ones are admitted, and the others refused
+-- among the reports so far, the accepted ones are admitted, and the others refused
 abbrev pub invariant-loop-report : goal.invariant-loop-report
 invariant-loop-report g l =
     (l.admitted.items ≡ filter is_accepted l.yielded)

@@ -7,7 +7,7 @@ loop-round-init c =
     let begun = c.in_ok-loader.ensures in
     (begun.begun, omega (arith, begun.left), λ none. begun.none (omega arith))
 
--- no round is left where the last was made
+-- no round is left after the last one
 none_left : (left i : ℕ) → left ≡ 2 - i → 3 ≤ i + 1 → left ≡ 0
 none_left left i e le = omega arith
 

@@ -5,7 +5,7 @@ use Rattle.cedar_samples.proofs.rounds.load.Given as goal
 abbrev steps : ℕ
 steps = 3
 
--- the loader is that of the request, and nothing is wanted after the last round
+-- the loader is the request's, and wants nothing after the last round
 abbrev pub invariant-loop-round : goal.invariant-loop-round
 invariant-loop-round l =
     IsLoaderOf l.request steps l.loader × (left_of l.loader ≡ 2 - l.round)

@@ -3,7 +3,7 @@ use Rattle.cedar_types.specs.Names.{uid_of}
 use Rattle.cedar_where.proofs.Literals.{literals_in, after}
 use Rattle.cedar_where.proofs.membership.entity_literals.Given as goal
 
--- the entities so far, before those that are left, are all of them
+-- the entities so far, with those of the rest behind them, are all
 abbrev pub invariant-loop-member : goal.invariant-loop-member
 invariant-loop-member l =
     after (map uid_of l.all.items) (literals_in (drop l.member-index l.members)) ≡ literals_in l.fn.members

@@ -6,7 +6,8 @@ use Rattle.cedar_types.specs.Types.Lookups.{attributes_in}
 use Rattle.cedar_where.specs.Tables.{columns, holder_of, left_out}
 use Rattle.cedar_where.proofs.tables.Table.of_type.Given as goal
 
--- the columns so far, before those of the attributes that are left, are all of them; and so are the attributes without one
+-- the columns so far, with those of the remaining attributes behind them, are all; and so are the attributes without a
+-- column
 abbrev pub invariant-loop-name : goal.invariant-loop-name
 invariant-loop-name l = record {
   held : map holder_of l.columns.items ++ columns (entries_of l.name-iterator)
