@@ -1,0 +1,58 @@
+/* cedar.h: a validator of Cedar policies. Link -lcedar (`pkg-config --libs cedar`), the shared library or the archive.
+ *
+ * Each call takes a text of JSON and answers one. Calls keep nothing between them, write no file, print nothing, start no thread and
+ * take no lock, so any number of threads may call at once. Memory is taken by the program's malloc, realloc and free, and all of it is
+ * given back before a call returns. You must not call from a signal handler, nor in the forked child of a process with threads.
+ *
+ * Pointers must not be NULL, not even for a length of 0. `call`, `answer` and `needed` must not overlap.
+ *
+ * Stack: a call fits a thread with a stack of 1 MiB at the depth that it has if it asks for none, as was measured for each kind of nesting.
+ * A condition that is deeper than the call allows is refused before it is checked, and a text of which 400 brackets and operators, or
+ * twice the depth, stand inside each other is not read. A call that sets "depth" higher, up to 400, needs CEDAR_STACK(depth) bytes.
+ *
+ * Proved, of a library that is built by a proof: each call is safe and returns, its status, `needed` and the buffer are as said
+ * below; a policy that is accepted in Strict or in Permissive mode does not go wrong, at a level it needs the slice alone, and a level
+ * that is said is the required one. Only tested: that the texts of schemas, policies and data mean what is read, and that the answer
+ * says what was decided. */
+#ifndef CEDAR_H
+#define CEDAR_H
+#include <stddef.h>
+#include <stdint.h>
+#ifdef __cplusplus
+extern "C" {
+#endif
+
+/* What cedar_abi() answers. Another number means other signatures or statuses. */
+#define CEDAR_ABI 1
+
+/* The stack in bytes that a call takes at most whose "depth" is this. */
+#define CEDAR_STACK(depth) ((size_t)786432 + (size_t)(depth) * 6144)
+
+enum cedar_status {
+    CEDAR_ANSWERED = 0,  /* the first *needed bytes of `answer` are the answer, in UTF-8, with no 0 behind them; the rest is as it was */
+    CEDAR_TOO_SMALL = 1, /* `answer` is as it was: call again with *needed bytes */
+    CEDAR_NO_MEMORY = 2, /* memory was refused; `answer` is as it was, *needed is 0, and nothing is decided */
+    CEDAR_NO_TEXT = 3    /* `call` is no UTF-8; `answer` is as it was, and *needed is 0 */
+};
+
+uint32_t cedar_abi(void);
+
+/* Validates policies by a schema. `call` is a ValidationCall of Cedar's FFI, and the answer is a ValidationAnswer: the keys "schema",
+ * "policies" and perhaps "validationSettings" with "mode". The settings may have three keys more: "level" (a number: a policy that may
+ * dereference more entities is refused), "depth" (how deep a condition may be), and "details" (true: each error has "also" and
+ * "environments", and the answer has "policies", each with "policyId", "accepted", "level" and "moreFindings"). */
+uint32_t cedar_validate(const uint8_t *call, size_t call_len, uint8_t *answer, size_t answer_len, size_t *needed);
+
+/* Checks data by a schema: the keys "schema" and perhaps "entities" and "request". The answer has of each that is there whether it
+ * "conforms", the "count" of entities, and "errors". */
+uint32_t cedar_check_data(const uint8_t *call, size_t call_len, uint8_t *answer, size_t answer_len, size_t *needed);
+
+/* Answers the condition of a policy in each of its environments: the keys "schema", "policy" and perhaps "validationSettings". The
+ * answer has "accepted", "validationErrors" and, where the policy is accepted, "conditions": each has "principalType", "action", "resourceType", the types of slots,
+ * and "condition", an expression in Cedar's form of JSON that evaluates as the condition of the policy does there. */
+uint32_t cedar_typed_conditions(const uint8_t *call, size_t call_len, uint8_t *answer, size_t answer_len, size_t *needed);
+
+#ifdef __cplusplus
+}
+#endif
+#endif

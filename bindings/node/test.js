@@ -1,0 +1,42 @@
+// The calls from Node: answers, odd texts, memory, and four workers.
+const assert = require("assert"), { Worker, isMainThread } = require("worker_threads");
+const cedar = require("./index.js");
+
+const schema = "entity U{a?:Long};action v appliesTo{principal:U,resource:U};", scope = "permit(principal,action,resource)";
+const call = { schema, policies: { staticPolicies: { x: `${scope} when {principal.a == 1};` } } };
+const wanted = JSON.stringify(cedar.validate(call)), CALLS = 10000;
+const run = (count) => { for (let i = 0; i < count; i++) assert.strictEqual(JSON.stringify(cedar.validate(call)), wanted); };
+
+function answers() {
+    const [error] = cedar.validate(call).validationErrors;
+    assert.deepStrictEqual([error.policyId, error.error.code], ["x", "unguarded-attribute"]);
+    const entities = [{ uid: { type: "U", id: "x" }, attrs: {}, parents: [] }];
+    assert.strictEqual(cedar.checkData({ schema, entities }).entities.conforms, true);
+    const [only] = cedar.typedConditions({ schema, policy: `${scope} when {principal == resource};` }).conditions;
+    const same = { "==": { left: { Var: "principal" }, right: { Var: "resource" } } };
+    assert(JSON.stringify(only.condition).includes(JSON.stringify(same)));
+}
+
+function oddTexts() {
+    for (const text of ["", "\0", "[".repeat((1 << 26) + 1)]) assert.strictEqual(cedar.validate(text).type, "failure");
+    assert.throws(() => cedar.native.validate(Buffer.from([0xff])), /UTF-8/);
+    assert.throws(() => cedar.native.validate("x"), /Buffer/);
+}
+
+function memory() {
+    run(CALLS / 2);
+    gc();
+    const before = process.memoryUsage().rss;
+    run(CALLS);
+    gc();
+    assert(process.memoryUsage().rss - before < 1 << 26);
+}
+
+if (isMainThread) {
+    memory();
+    answers();
+    oddTexts();
+    for (let i = 0; i < 4; i++) new Worker(__filename).on("exit", (code) => assert.strictEqual(code, 0));
+} else {
+    run(CALLS / 4);
+}

@@ -1,0 +1,70 @@
+//! The call that checks entities and a request by a schema.
+use crate::answers::failure;
+use crate::faults::only_fault;
+use crate::schemas::{schema_of, text_at};
+use crate::writer::Answer;
+use cedar_findings::data_findings::DataVerdict;
+use cedar_json::{FormError, Object, Value, value_alone};
+use cedar_types::base::ValidatorSchema;
+use cedar_verdicts::data::{DataKind, judge_data};
+use std::alloc::{AllocError, Global};
+
+/// Answers a call that checks data, an object of `schema` and perhaps `entities` and `request`, by a text of JSON: of each part that
+/// is there, whether it conforms to the schema, and its mistakes, whose places are in that part. The answer is `failure` where the
+/// text is no call, or the schema cannot be read. It fails where memory is refused.
+pub fn check_data_call(alloc: Global, call: &str) -> Result<String, AllocError> {
+    match answer_of(alloc, call) {
+        Ok(answer) => Ok(answer),
+        Err(error) => {
+            let faults = only_fault(alloc, call, error)?;
+            failure(alloc, &faults)
+        }
+    }
+}
+
+fn answer_of(alloc: Global, call: &str) -> Result<String, FormError> {
+    let root = value_alone(alloc, call)?;
+    let object = Object::of(&root)?;
+    object.allow(&["schema", "entities", "request"])?;
+    let schema = object.need("schema")?;
+    let schema = match schema_of(alloc, call, schema)? {
+        Ok(schema) => schema,
+        Err(faults) => return Ok(failure(alloc, &faults)?),
+    };
+    let entities = object.given("entities");
+    let entities = judged(alloc, &schema, call, DataKind::Entities, entities)?;
+    let request = object.given("request");
+    let request = judged(alloc, &schema, call, DataKind::Request, request)?;
+    Ok(written(alloc, &entities, &request)?)
+}
+
+/// What is said of a part of a call, if it is there.
+fn judged(
+    alloc: Global,
+    schema: &ValidatorSchema,
+    call: &str,
+    kind: DataKind,
+    part: Option<&Value>,
+) -> Result<Option<DataVerdict>, AllocError> {
+    let Some(part) = part else {
+        return Ok(None);
+    };
+    let text = text_at(call, part.place);
+    let verdict = judge_data(alloc, schema, kind, text)?;
+    Ok(Some(verdict))
+}
+
+fn written(
+    alloc: Global,
+    entities: &Option<DataVerdict>,
+    request: &Option<DataVerdict>,
+) -> Result<String, AllocError> {
+    let mut answer = Answer::begin(alloc, "success")?;
+    if let Some(verdict) = entities {
+        answer.add_data("entities", verdict)?;
+    }
+    if let Some(verdict) = request {
+        answer.add_data("request", verdict)?;
+    }
+    answer.finish()
+}

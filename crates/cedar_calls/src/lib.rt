@@ -1,0 +1,21 @@
+//! Calls in Cedar's own protocol, which programs in other languages make: each is an object of JSON, and so is its answer. A call
+//! validates policies by a schema, checks data by a schema, or asks for the typed conditions of a policy. Nothing is kept between
+//! calls.
+#![tactic(auto)]
+
+pub mod answered;
+mod answers;
+pub mod conditions;
+pub mod data;
+mod depths;
+mod expressions;
+mod faults;
+mod forms;
+pub mod given;
+pub mod links;
+mod nesting;
+mod policies;
+mod schemas;
+pub mod settings;
+pub mod validation;
+mod writer;

@@ -1,0 +1,115 @@
+//! The call that validates policies by a schema: Cedar's `ValidationCall`, which a `ValidationAnswer` answers.
+use crate::answered::judge_all;
+use crate::answers::{failure, success};
+use crate::faults::{add_all, only_fault};
+use crate::given::Given;
+use crate::policies::PolicyReader;
+use crate::schemas::schema_of;
+use crate::settings::Asked;
+use cedar_extensions::checks::Constructor;
+use cedar_extensions::functions::{Checks, functions, overloaded_types};
+use cedar_findings::faults::TextFault;
+use cedar_json::{FormError, Object, value_alone};
+use cedar_typechecker::rbac::Validator;
+use cedar_types::base::{ExtensionSchemas, ValidatorSchema};
+use cedar_verdicts::settings::Settings;
+use std::alloc::{AllocError, Global};
+
+/// A call that validates policies by a schema.
+#[derive(Drop)]
+pub struct ValidationCall {
+    pub asked: Asked,
+    pub schema: ValidatorSchema,
+    /// The static policies, the templates and then the links.
+    pub given: Vec<Given>,
+}
+
+impl ValidationCall {
+    /// Reads a call, an object of `schema`, `policies` and perhaps `validationSettings`, or says all faults of its schema and its
+    /// policies, or the first fault of its form. Calls in policies are of these functions. It fails where memory is refused.
+    pub fn read(
+        alloc: Global,
+        functions: &ExtensionSchemas,
+        text: &str,
+    ) -> Result<Result<ValidationCall, Vec<TextFault>>, AllocError> {
+        match read_call(alloc, functions, text) {
+            Ok(read) => Ok(read),
+            Err(error) => Ok(Err(only_fault(alloc, text, error)?)),
+        }
+    }
+
+    /// The answer of the call, as a text of JSON. It fails where memory is refused.
+    pub fn answer(self, alloc: Global, functions: &ExtensionSchemas) -> Result<String, AllocError> {
+        let ValidationCall {
+            asked,
+            schema,
+            given,
+        } = self;
+        let validator = Validator::new(schema, functions);
+        let settings = Settings {
+            validator: &validator,
+            mode: asked.mode,
+            level: asked.level,
+            syntax: None,
+        };
+        let all = judge_all(alloc, &settings, given.as_slice())?;
+        success(alloc, all.as_slice(), asked.has_details)
+    }
+}
+
+fn read_call(
+    alloc: Global,
+    functions: &ExtensionSchemas,
+    text: &str,
+) -> Result<Result<ValidationCall, Vec<TextFault>>, FormError> {
+    let root = value_alone(alloc, text)?;
+    let object = Object::of(&root)?;
+    object.allow(&["validationSettings", "schema", "policies"])?;
+    let settings = object.given("validationSettings");
+    let asked = Asked::read(settings)?;
+    let reader = PolicyReader {
+        alloc,
+        call: text,
+        functions,
+        depth: asked.depth,
+    };
+    let schema = object.need("schema")?;
+    let policies = object.need("policies")?;
+    let given = reader.read_all(policies)?;
+    let schema = match schema_of(alloc, text, schema)? {
+        Ok(schema) => schema,
+        Err(mut faults) => {
+            add_all(&mut faults, given.faults)?;
+            return Ok(Err(faults));
+        }
+    };
+    if !given.faults.is_empty() {
+        return Ok(Err(given.faults));
+    }
+    Ok(Ok(ValidationCall {
+        asked,
+        schema,
+        given: given.policies,
+    }))
+}
+
+/// Answers a call that validates policies, a text of JSON, by a text of JSON. There is an answer for each text: `failure` where it
+/// is no call, or where its schema or one of its policies cannot be read. It fails where memory is refused.
+pub fn validate_call(alloc: Global, call: &str) -> Result<String, AllocError> {
+    // (a function that made the boxes and handed them out would hide what they are)
+    let checks = Checks {
+        ip: Box::new(alloc, Constructor::Ip.check(alloc))?,
+        decimal: Box::new(alloc, Constructor::Decimal.check(alloc))?,
+        datetime: Box::new(alloc, Constructor::Datetime.check(alloc))?,
+        duration: Box::new(alloc, Constructor::Duration.check(alloc))?,
+    };
+    let functions = functions(alloc, checks)?;
+    let overloaded = overloaded_types(alloc)?;
+    let Ok(functions) = ExtensionSchemas::new(functions, overloaded) else {
+        return failure(alloc, &Vec::new(alloc));
+    };
+    match ValidationCall::read(alloc, &functions, call)? {
+        Ok(read) => read.answer(alloc, &functions),
+        Err(faults) => failure(alloc, &faults),
+    }
+}
