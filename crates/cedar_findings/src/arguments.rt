@@ -1,4 +1,4 @@
-//! What the words of the command line ask for.
+//! Arguments of a call, as the words of the command line give them.
 pub use crate::command_lines::read_arguments;
 use crate::formats::Format;
 use crate::lines::Lines;
@@ -10,50 +10,50 @@ use crate::syntaxes::Syntax;
 use cedar_types::base::ValidationMode;
 use std::alloc::{AllocError, Global};
 
-/// What is done with the files.
+/// The task of a call.
 #[derive(Clone, Copy, PartialEq, Eq, Debug)]
 pub enum Task {
-    /// Policies are validated, and data is checked.
+    /// Validates policies, and checks data.
     Validation,
-    /// Policies are validated by two schemas, and what changed is told.
+    /// Validates policies by two schemas, and tells the changes.
     Comparison,
-    /// Texts are read, and nothing is validated.
+    /// Reads texts, and validates nothing.
     Parsing,
 }
 
-/// In how many files an id may stand.
+/// The scope in which an id must be unique.
 #[derive(Clone, Copy, PartialEq, Eq, Debug)]
 pub enum IdScope {
-    /// In any number, once in each.
+    /// Within each file: several files may have the id.
     File,
-    /// In one of all that are named.
+    /// Within all files of the call.
     Call,
 }
 
-/// What is to be validated, and how.
+/// The arguments of a validation.
 #[derive(Drop)]
 pub struct Arguments {
     pub task: Task,
     pub mode: ValidationMode,
-    /// How many entities a policy may dereference, one after another; any number without it.
+    /// The number of entities that a policy may dereference one after another; any number if there is none.
     pub level: Option<u32>,
     pub format: Format,
-    /// The syntax of all files, where their first characters do not tell it.
+    /// The syntax of all files; none if their first characters tell it.
     pub syntax: Option<Syntax>,
-    /// That of the schema's files, and that of the files of policies: where none is given, that of all.
+    /// The syntax of the schema's files, and that of the policies' files; if none is given, the syntax of all files.
     pub schema_syntax: Option<Syntax>,
     pub policy_syntax: Option<Syntax>,
     /// Whether a warning counts for the exit status as a refused policy does.
     pub denies_warnings: bool,
-    /// Whether nothing is written of accepted policies without a finding, nor how many policies there are.
+    /// Whether the output leaves out accepted policies without a finding, and the counts.
     pub is_quiet: bool,
     pub id_scope: IdScope,
     pub statuses: Statuses,
-    /// The files of the schema: one at least, unless texts are read alone.
+    /// The files of the schema: at least one, unless texts are only read.
     pub schemas: Vec<String>,
-    /// The files of an older schema, with which the schema is compared, if it is.
+    /// The files of an older schema, with which the schema is compared; empty if it is not.
     pub old_schemas: Vec<String>,
-    /// The files of policies. There is one at least, unless there is data, or a schema to be read alone.
+    /// The files of policies: at least one, unless there is data, or a schema is only read.
     pub policies: Vec<String>,
     /// The file of links, if there is one.
     pub links: Option<String>,
@@ -63,20 +63,20 @@ pub struct Arguments {
     pub request: Option<String>,
 }
 
-/// What the words ask for.
+/// The request that the words make.
 #[derive(Drop)]
 pub enum Asked {
     Help,
     Version,
     /// The page of the program for `man`.
     Page,
-    /// What completes the words of the program in a shell.
+    /// The script that completes the words of the program in a shell.
     Completion(Shell),
     Validation(Arguments),
 }
 
 impl Arguments {
-    /// Those of no words.
+    /// The arguments of a call without words.
     pub(crate) fn new(alloc: Global) -> Arguments {
         Arguments {
             task: Task::Validation,
@@ -99,7 +99,7 @@ impl Arguments {
         }
     }
 
-    /// Takes note of a file that an option names. Whether it may be named.
+    /// Takes note of a file that an option names. The answer is false if the option takes one file and has one already.
     pub(crate) fn name_file(
         &mut self,
         alloc: Global,
@@ -117,7 +117,7 @@ impl Arguments {
         }
     }
 
-    /// Sets what an option is for that names no file. Whether it takes this value.
+    /// Sets the value of an option that names no file. The answer is false if the option does not take this value.
     pub(crate) fn set(&mut self, option: ValueOption, value: &str) -> bool {
         match option {
             ValueOption::Mode => {
@@ -150,8 +150,8 @@ impl Arguments {
         }
     }
 
-    /// Completes what is read: the first file that no option names is the schema where none is named, the syntax of all files
-    /// is that of each, and with an older schema both are compared.
+    /// Completes the arguments: the first file without an option is the schema if no option names one, the syntax of all files
+    /// is that of each, and an older schema makes the call a comparison.
     pub(crate) fn take_schema(&mut self, first_unnamed: Option<usize>) -> Result<(), AllocError> {
         self.schema_syntax = self.schema_syntax.or(self.syntax);
         self.policy_syntax = self.policy_syntax.or(self.syntax);
@@ -171,7 +171,7 @@ impl Arguments {
         Ok(())
     }
 
-    /// What is wrong with these together.
+    /// The misuse that these arguments are together, if they are one.
     pub(crate) fn misuse(&self) -> Option<Misuse> {
         if self.mode == ValidationMode::Partial && self.level.is_some() {
             return Some(Misuse::LevelInPartial);
@@ -202,7 +202,7 @@ impl Arguments {
         is_empty.then_some(Misuse::TooFewFiles)
     }
 
-    /// How often standard input is named.
+    /// The number of times that standard input is named.
     fn inputs(&self) -> usize {
         inputs_in(self.schemas.as_slice())
             .saturating_add(inputs_in(self.old_schemas.as_slice()))
@@ -229,7 +229,7 @@ fn add_file(alloc: Global, files: &mut Vec<String>, name: &str) -> Result<bool, 
     Ok(true)
 }
 
-/// Sets a file that is named once. Whether it was not named before.
+/// Sets a file that may be named once. The answer is false if it was named before.
 fn set_once(alloc: Global, file: &mut Option<String>, name: &str) -> Result<bool, AllocError> {
     if file.is_some() {
         return Ok(false);
@@ -238,7 +238,7 @@ fn set_once(alloc: Global, file: &mut Option<String>, name: &str) -> Result<bool
     Ok(true)
 }
 
-/// How often standard input is named.
+/// The number of times that these files name standard input.
 fn inputs_in(files: &[String]) -> usize {
     files.iter().filter(|name| name.as_str() == "-").count()
 }

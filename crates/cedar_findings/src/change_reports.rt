@@ -1,4 +1,4 @@
-//! What changed for the policies of a file, in the format that is asked for.
+//! Changes for the policies of a file, in the format that the caller asks for.
 use crate::changes::{Comparison, Whose, push_change, push_gone};
 use crate::findings::{Finding, Verdict};
 use crate::formats::Format;
@@ -8,7 +8,7 @@ use crate::writers::{Entry, FindingsWriter, Place};
 use cedar_types::base::{Loc, Template};
 use std::alloc::{AllocError, Global};
 
-/// Shows what changed for the policies of a file.
+/// A report of changes for the policies of a file.
 #[derive(Drop)]
 pub struct ChangeReport<'a> {
     source: Source<'a>,
@@ -16,20 +16,20 @@ pub struct ChangeReport<'a> {
 }
 
 impl<'a> ChangeReport<'a> {
-    /// For this file. Findings that came and those that went do not stand in one order, so places have an index.
+    /// A report on this file. Its places have an index, because findings that came and findings that went are not in one order.
     pub fn new(alloc: Global, source: Source<'a>) -> Result<ChangeReport<'a>, AllocError> {
         let mut places = Places::new(alloc, source.text);
         places.index()?;
         Ok(ChangeReport { source, places })
     }
 
-    /// The file.
+    /// The file of the report.
     pub fn source(&self) -> Source<'a> {
         self.source
     }
 
-    /// How a change is shown: what became of the policy, the findings that came, and those that went. Nothing, where nothing
-    /// changed.
+    /// The text that shows a change: the changes for the policy, the findings that came, and those that went. It is empty if
+    /// nothing changed.
     pub fn change_shown(
         &mut self,
         alloc: Global,

@@ -1,4 +1,4 @@
-//! What changes for a policy from one schema to another, in each format.
+//! Changes for a policy from one schema to another, in each format.
 use crate::escapes::{Shown, ShownId};
 use crate::findings::{Finding, Requirement, Severity, Verdict};
 use crate::formats::Format;
@@ -7,23 +7,23 @@ use crate::objects::add_place;
 use crate::writers::Place;
 use std::alloc::AllocError;
 
-/// What became of a policy.
+/// A change for a policy.
 #[derive(Clone, Copy, PartialEq, Eq, Debug)]
 pub enum Change {
-    /// It is refused, and was accepted.
+    /// The policy was accepted, and is refused.
     Refused,
-    /// It is accepted, and was refused.
+    /// The policy was refused, and is accepted.
     Accepted,
-    /// It is impossible, and was not.
+    /// The policy is newly impossible.
     Impossible,
-    /// It was impossible, and is not.
+    /// The policy is no longer impossible.
     Possible,
-    /// It needs another level.
+    /// The policy needs another level.
     Level,
 }
 
 impl Change {
-    /// What it is called: by lines for people, and by objects.
+    /// The texts for the change: one for lines, and one for objects.
     pub fn texts(self) -> (&'static str, &'static str) {
         match self {
             Change::Refused => ("newly refused", "refused"),
@@ -35,14 +35,14 @@ impl Change {
     }
 }
 
-/// What changed from one verdict to the next.
+/// The comparison of a verdict with the next.
 #[derive(Drop)]
 pub struct Comparison<'o, 'n> {
     pub is_worse: bool,
     pub changes: Vec<Change>,
-    /// The findings that came, of the newer verdict.
+    /// The findings that came: those of the newer verdict alone.
     pub came: Vec<(Severity, &'n Finding)>,
-    /// The findings that went, of the older one.
+    /// The findings that went: those of the older verdict alone.
     pub went: Vec<(Severity, &'o Finding)>,
 }
 
@@ -53,7 +53,7 @@ impl Comparison<'_, '_> {
     }
 }
 
-/// How many policies were compared, how many of them have changed, and how many are worse off.
+/// The number of policies that were compared, of those that changed, and of those that are worse off.
 #[derive(Clone, Copy, Default)]
 pub struct ChangeTally {
     pub policies: u64,
@@ -72,14 +72,14 @@ impl ChangeTally {
     }
 }
 
-/// A policy: its id, and where it stands.
+/// A policy's id and place.
 #[derive(Clone, Copy)]
 pub struct Whose<'a> {
     pub place: Place<'a>,
     pub id: &'a str,
 }
 
-/// Adds what changed for a policy, without its findings: nothing in SARIF, of which a result is a finding.
+/// Adds the changes for a policy, without its findings. SARIF gets none, because each of its results is a finding.
 pub fn push_change(
     out: &mut String,
     format: Format,
@@ -95,7 +95,7 @@ pub fn push_change(
     }
 }
 
-/// Adds a finding that went: nothing in SARIF, because what is shown there is there.
+/// Adds a finding that went. SARIF gets none, because its results are findings that hold now.
 pub fn push_gone(
     out: &mut String,
     format: Format,
@@ -115,7 +115,7 @@ pub fn push_gone(
     }
 }
 
-/// Adds what stands behind all, unless the format is SARIF.
+/// Adds the counts at the end, unless the format is SARIF.
 pub fn push_tally(
     out: &mut String,
     format: Format,
@@ -243,7 +243,7 @@ fn add_boolean(
     json.boolean(out, value)
 }
 
-/// Adds a level, as objects of policies have it: null where no number is enough, and nothing where none is said.
+/// Adds a level as the objects of policies have it: null if no number is enough, and nothing if no level is known.
 fn add_level(
     json: &mut JsonWriter,
     out: &mut String,

@@ -1,4 +1,4 @@
-//! A code for each kind of finding and fault. It stays the same where words become better.
+//! Codes of the kinds of findings and faults. A code stays when its words are improved, so that programs can rely on it.
 use cedar_types::base::{ValidationError, ValidationWarning};
 
 /// A kind of finding or fault.
@@ -104,7 +104,7 @@ impl Code {
         }
     }
 
-    /// How it is written: small letters, with a hyphen between words.
+    /// The code in small letters, with a hyphen between words.
     pub fn text(self) -> &'static str {
         match self {
             Code::UnknownType => "unknown-type",
@@ -141,7 +141,7 @@ impl Code {
         }
     }
 
-    /// What it says, in a sentence.
+    /// The meaning of the kind, in a sentence.
     pub fn meaning(self) -> &'static str {
         match self {
             Code::UnknownType => "The schema does not declare an entity type.",

@@ -1,13 +1,31 @@
-//! The colours of kinds of findings, in lines for people.
+//! Colours of the kinds of findings, in lines for people.
 use crate::escapes::Shown;
 use std::alloc::{AllocError, Global};
+use std::env::VarError;
 
-/// Whether they are painted.
+/// Whether kinds of findings have colours.
 #[derive(Clone, Copy, PartialEq, Eq, Debug)]
 pub enum Colours {
     None,
-    /// As terminals take them.
+    /// Colours in the escapes of terminals.
     Terminal,
+}
+
+impl Colours {
+    /// Those of standard output, if it is a terminal, by the variable `NO_COLOR`: nothing is painted where the variable is there and
+    /// is not empty. One that is no text in UTF-8 is not empty; where memory is refused for it, nothing is painted.
+    pub fn of_output(is_terminal: bool, no_color: Result<String, VarError>) -> Colours {
+        let is_refused = match no_color {
+            Ok(text) => !text.is_empty(),
+            Err(VarError::NotPresent) => false,
+            Err(VarError::NotUnicode | VarError::OutOfMemory) => true,
+        };
+        if is_terminal && !is_refused {
+            Colours::Terminal
+        } else {
+            Colours::None
+        }
+    }
 }
 
 /// What ends a colour.
@@ -22,8 +40,8 @@ fn colour_of(kind: &str) -> Option<&'static str> {
     }
 }
 
-/// Some lines about the file of this name, the kind of each in its colour. Lines that do not begin with a place of the file
-/// stay as they are, such as those of its text.
+/// Lines about the file of this name, the kind of each in its colour. A line that does not begin with a place of the file stays
+/// as it is, for example a line of the file's text.
 pub fn painted(alloc: Global, name: &str, lines: &str) -> Result<String, AllocError> {
     let name = Shown(name);
     let file = format!(in alloc; "{name}:")?;
@@ -55,7 +73,7 @@ struct Kind<'a> {
     text: &'a str,
 }
 
-/// The kind of a line that begins with a place of this file: what stands behind the place, up to a colon.
+/// The kind of a line that begins with a place of this file: the text behind the place, up to a colon.
 fn kind_of<'a>(file: &str, line: &'a str) -> Option<Kind<'a>> {
     let rest = line.strip_prefix(file)?;
     let rest = rest.trim_start_matches(|c: char| c.is_ascii_digit() || c == ':');

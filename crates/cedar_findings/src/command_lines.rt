@@ -1,4 +1,4 @@
-// How the words of the command line are read, one after another.
+// Reading of the command line, word by word.
 use crate::arguments::{Arguments, Asked, IdScope, Misuse, Task};
 use crate::formats::Format;
 use crate::objects::Objects;
@@ -7,7 +7,7 @@ use crate::shells::Shell;
 use crate::statuses::Statuses;
 use std::alloc::{AllocError, Global};
 
-/// What is asked for by these words, or what is wrong with them. It fails where memory is refused.
+/// The request that these words make, or their misuse. If memory is refused, the answer is an `AllocError`.
 pub fn read_arguments(
     alloc: Global,
     words: &[String],
@@ -24,7 +24,7 @@ pub fn read_arguments(
     read.finish()
 }
 
-/// What comes next.
+/// The kind of word that comes next.
 #[derive(Clone, Copy)]
 enum Next {
     Any,
@@ -34,12 +34,12 @@ enum Next {
     File,
 }
 
-/// What was read so far: each file that no option names stands with those of policies.
+/// The arguments so far. A file without an option stands among the files of policies until all words are read.
 #[derive(Drop)]
 struct Reading {
     alloc: Global,
     arguments: Arguments,
-    /// Which of the files of policies no option names, the first one.
+    /// The index of the first file without an option among the files of policies.
     first_unnamed: Option<usize>,
     shell: Option<Shell>,
     next: Next,
@@ -56,7 +56,7 @@ impl Reading {
         }
     }
 
-    /// What a word asks about the program itself, unless it stands behind `--`.
+    /// The question of a word about the program itself, unless the word stands behind `--`.
     fn asks_about_program(&self, word: &str) -> Option<Asked> {
         match (self.next, option_by_name(word)) {
             (Next::File, _) => None,
@@ -67,7 +67,7 @@ impl Reading {
         }
     }
 
-    /// Reads a word, and says what is wrong with it.
+    /// Reads a word. The answer is its misuse, if it is one.
     fn take(&mut self, word: &String) -> Result<Option<Misuse>, AllocError> {
         match self.next {
             Next::Value(option) => {
@@ -80,6 +80,7 @@ impl Reading {
     }
 
     fn take_file(&mut self, word: &String) -> Result<Option<Misuse>, AllocError> {
+        // the first file may turn out to be the schema, so its place among the files is kept
         let count = self.arguments.policies.len();
         self.arguments.policies.push(word.clone()?)?;
         self.first_unnamed = self.first_unnamed.or(Some(count));
@@ -114,7 +115,7 @@ impl Reading {
         self.take_file(word)
     }
 
-    /// Does what an option without a value is for.
+    /// Sets an option without a value.
     fn raise(&mut self, flag: Flag) {
         let arguments = &mut self.arguments;
         match flag {
@@ -124,12 +125,12 @@ impl Reading {
             Flag::UniqueIds => arguments.id_scope = IdScope::Call,
             Flag::CedarStatus => arguments.statuses = Statuses::Cedar,
             Flag::CheckParse => arguments.task = Task::Parsing,
-            // what these ask was answered before
+            // these options were answered before
             Flag::Page | Flag::Help | Flag::Version => {}
         }
     }
 
-    /// Reads the value of an option, and says what is wrong with it.
+    /// Reads the value of an option. The answer is its misuse, if it is one.
     fn take_value(
         &mut self,
         option: ValueOption,

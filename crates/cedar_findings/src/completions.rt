@@ -1,22 +1,22 @@
-//! What completes the words of the program in a shell. It is made of the table of words.
+//! Scripts that complete the words of the program in a shell. They are made of the table of words.
 use crate::help::{push_names, push_texts};
 use crate::options::{Asks, Values, WORDS, Word};
 use crate::shells::Shell;
 use std::alloc::{AllocError, Global};
 use std::fmt;
 
-/// What stands before the values of words in a script for bash.
+/// The beginning of the script for bash, up to the values of words.
 const BASH_BEFORE: &str = "_cedar_validate() {
     local current=${COMP_WORDS[COMP_CWORD]} before=${COMP_WORDS[COMP_CWORD - 1]}
     case $before in
 ";
 
-/// What stands between the values and the names.
+/// The part of the script for bash between the values and the names.
 const BASH_BETWEEN: &str = "    esac
     if [[ $current == -* ]]; then
         mapfile -t COMPREPLY < <(compgen -W '";
 
-/// What stands behind the names.
+/// The end of the script for bash, behind the names.
 const BASH_BEHIND: &str = "' -- \"$current\")
     else
         mapfile -t COMPREPLY < <(compgen -f -- \"$current\")
@@ -115,7 +115,7 @@ fn push_fish(shown: &mut String) -> Result<(), AllocError> {
     Ok(())
 }
 
-/// Adds the names of a word: a long one begins with two hyphens.
+/// Adds the names of a word: a long name begins with two hyphens.
 fn push_fish_names(shown: &mut String, word: &Word) -> Result<(), AllocError> {
     for name in word.names {
         match name.strip_prefix("--") {

@@ -1,25 +1,25 @@
-//! What is said of data.
+//! Verdicts on data, and their findings.
 use crate::codes::Code;
 use cedar_types::base::Loc;
 
-/// A mistake in data, and where it stands.
+/// A mistake in data, with its place.
 #[derive(Drop)]
 pub struct DataFinding {
     pub place: Loc,
-    /// Of which kind it is: `Fault` where the text is no data there, `Rest` where there are more.
+    /// The kind of the mistake: `Fault` if the text is no data there, `Rest` if there are more mistakes.
     pub code: Code,
     pub text: String,
-    /// What may help; empty where that is not known.
+    /// The hint; empty if none is known.
     pub hint: String,
 }
 
-/// What is said of a text of data.
+/// The verdict on a text of data.
 #[derive(Drop)]
 pub struct DataVerdict {
-    /// Whether it is as the schema says.
+    /// Whether the data conforms to the schema.
     pub is_accepted: bool,
-    /// How many entities could be read.
+    /// The number of entities that could be read.
     pub entities: usize,
-    /// The first mistakes in the order of their places, and behind these that there are more, if there are.
+    /// The first mistakes in the order of their places; the last finding tells that there are more, if there are.
     pub findings: Vec<DataFinding>,
 }

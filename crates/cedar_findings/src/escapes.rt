@@ -1,15 +1,15 @@
-//! Texts that others wrote, shown so that none of their characters steers what shows them.
+//! Texts by other writers, shown so that none of their characters controls the terminal or the tool that shows them.
 use std::alloc::AllocError;
 use std::fmt;
 
-/// A text on one line: a character that [`is_hidden`] is escaped, and a `#` behind another; quotes and backslashes stay as they
-/// are.
+/// A text on one line. A character that [`is_hidden`] is escaped, for example the end of a line as `\n`, and a `#` behind
+/// another; quotes and backslashes stay.
 #[derive(Drop)]
 pub struct Shown<'a>(pub &'a str);
 
 impl fmt::Display for Shown<'_> {
     fn fmt<W: fmt::Write>(&self, f: &mut fmt::Formatter<W>) -> fmt::Result {
-        if self.0.bytes().all(is_printable) {
+        if is_plain(self.0) {
             return f.write_str(self.0);
         }
         let mut before = ' ';
@@ -21,9 +21,28 @@ impl fmt::Display for Shown<'_> {
     }
 }
 
+/// Whether a text is of characters of ASCII alone that take one place each, whatever stands before them. Nearly all texts are, so
+/// eight bytes are looked at together.
+pub(crate) fn is_plain(text: &str) -> bool {
+    let (words, rest) = text.as_bytes().as_chunks::<8>();
+    words
+        .iter()
+        .all(|word| are_printable(u64::from_le_bytes(*word)))
+        && rest.iter().all(|byte| is_printable(*byte))
+}
+
+/// Whether each of eight bytes [`is_printable`]. The first one that is not sets its highest bit: by itself where it is none of ASCII,
+/// in the first difference below a blank, in the sum behind a tilde, and in the second difference where it is a `#`.
+fn are_printable(bytes: u64) -> bool {
+    let from_blank = bytes.wrapping_sub(0x2020_2020_2020_2020);
+    let behind_tilde = bytes.wrapping_add(0x0101_0101_0101_0101);
+    let from_mark = (bytes ^ 0x2323_2323_2323_2323).wrapping_sub(0x0101_0101_0101_0101);
+    (bytes | from_blank | behind_tilde | from_mark) & 0x8080_8080_8080_8080 == 0
+}
+
 /// Adds a text on one line, as [`Shown`] shows it.
 pub(crate) fn push_shown(out: &mut String, text: &str) -> Result<(), AllocError> {
-    if text.bytes().all(is_printable) {
+    if is_plain(text) {
         return out.push_str(text);
     }
     let shown = Shown(text);
@@ -40,7 +59,7 @@ pub(crate) fn push_shown_id(out: &mut String, id: &str) -> Result<(), AllocError
 }
 
 /// Writes a character of a text as [`Shown`] does, which stands behind another in the text.
-pub fn write_shown<W: fmt::Write>(f: &mut fmt::Formatter<W>, before: char, c: char) -> fmt::Result {
+fn write_shown<W: fmt::Write>(f: &mut fmt::Formatter<W>, before: char, c: char) -> fmt::Result {
     match c {
         '"' | '\'' | '\\' => f.write_char(c),
         '#' if begins_command(before, c) => f.write_str(ESCAPED_MARK),
@@ -48,24 +67,25 @@ pub fn write_shown<W: fmt::Write>(f: &mut fmt::Formatter<W>, before: char, c: ch
     }
 }
 
-/// How many places a character takes in what [`write_shown`] writes.
-pub fn shown_width(before: char, c: char) -> usize {
+/// How many places a character takes in what [`Shown`] shows behind another.
+pub(crate) fn shown_width(before: char, c: char) -> usize {
     if begins_command(before, c) {
         return ESCAPED_MARK.len();
     }
     display_width(c)
 }
 
-/// A `#` as it is shown behind another.
+/// The escape of a `#` behind another.
 const ESCAPED_MARK: &str = "\\u{23}";
 
-/// Whether a character ends the mark `##`, with which lines of a pipeline give commands: `##[` and `##vso[` do so wherever they
-/// stand in a line.
+/// Whether a character ends the mark `##`, because lines of a pipeline give commands with it: `##[` and `##vso[` do, anywhere
+/// in a line.
 fn begins_command(before: char, c: char) -> bool {
     before == '#' && c == '#'
 }
 
-/// An id between backquotes: double quotes, backquotes and backslashes are escaped too, so it ends neither.
+/// An id between backquotes: double quotes, backquotes and backslashes are escaped too, so that none of them seems to end the
+/// id.
 #[derive(Drop)]
 pub struct ShownId<'a>(pub &'a str);
 
@@ -88,12 +108,12 @@ impl fmt::Display for ShownId<'_> {
     }
 }
 
-/// Whether a byte is a character of ASCII that takes one place, whatever stands before it.
+/// Whether a byte is a character of ASCII that is one wide, whatever stands before it.
 fn is_printable(byte: u8) -> bool {
     matches!(byte, b' '..=b'~') && byte != b'#'
 }
 
-/// Whether such a byte stands in an id as it is.
+/// Whether a byte stays as it is in an id.
 fn is_plain_in_id(byte: u8) -> bool {
     is_printable(byte) && byte != b'"' && byte != b'`' && byte != b'\\'
 }
@@ -111,7 +131,7 @@ fn write_escaped<W: fmt::Write>(f: &mut fmt::Formatter<W>, c: char) -> fmt::Resu
     Ok(())
 }
 
-/// Whether a character is a control character, a mark of direction, a line's end, takes no place of its own, or shows nothing.
+/// Whether a character is a control character, a mark of direction or the end of a line, or has no width, or shows nothing.
 pub fn is_hidden(c: char) -> bool {
     if c.is_ascii() {
         return c.is_ascii_control();
@@ -119,7 +139,7 @@ pub fn is_hidden(c: char) -> bool {
     display_width(c) > 1
 }
 
-/// How many places a character takes in what [`Shown`] shows.
+/// The width of the characters that [`Shown`] shows for a character.
 pub fn display_width(c: char) -> usize {
     match c {
         ' '..='~' => 1,
@@ -128,8 +148,7 @@ pub fn display_width(c: char) -> usize {
     }
 }
 
-/// Whether a letter or a symbol shows nothing, though it is one: the fillers of Hangul, the empty Braille pattern, and the empty
-/// head of a note.
+/// Whether a letter or a symbol shows nothing: the fillers of Hangul, the empty Braille pattern, and the empty head of a note.
 fn is_filler(c: char) -> bool {
     matches!(
         c,

@@ -1,23 +1,32 @@
 //! The line of a place behind its number, with carets below it.
-use crate::escapes::{shown_width, write_shown};
+use crate::digits::push_number;
+use crate::escapes::{is_plain, push_shown, shown_width};
+use crate::places::is_first_of_character;
 use cedar_types::base::Loc;
-use std::fmt;
+use std::alloc::AllocError;
 
-/// How many characters of a line are shown before a place, in it, and behind it.
+/// The number of characters of a line that are shown before a place, in it, and behind it.
 const MAX_SHOWN: usize = 200;
+
+/// How many marks are added at once.
+const RUN: usize = 64;
+
+const BLANKS: &str = "                                                                ";
+
+const CARETS: &str = "^^^^^^^^^^^^^^^^^^^^^^^^^^^^^^^^^^^^^^^^^^^^^^^^^^^^^^^^^^^^^^^^";
 
 /// The line in which a place begins, and its number. Of a long line what is near the place.
 #[derive(Drop)]
 pub struct Excerpt<'a> {
     number: usize,
-    /// What is shown of the line: what stands before the place, in it, and behind it.
+    /// The shown part of the line: before the place, in it, and behind it.
     line: &'a str,
     before: &'a str,
     within: &'a str,
 }
 
 impl<'a> Excerpt<'a> {
-    /// The line of a place in this text, which is the one of this number.
+    /// The excerpt at a place of this text, which begins in the line of this number.
     pub fn new(text: &'a str, place: Loc, number: usize) -> Excerpt<'a> {
         let part = text.get(place.start..place.end).unwrap_or("");
         let before = end_of_line(text.get(..place.start).unwrap_or(""));
@@ -35,108 +44,117 @@ impl<'a> Excerpt<'a> {
             within,
         }
     }
-}
 
-/// Two lines: the text behind a gutter with its number, and carets below the place, one at least. The gutter keeps a line of a
-/// text from being the beginning of a line of what is written: a code host takes some of those for commands.
-impl fmt::Display for Excerpt<'_> {
-    fn fmt<W: fmt::Write>(&self, f: &mut fmt::Formatter<W>) -> fmt::Result {
-        let number = self.number;
-        write!(f, "  {number} | ")?;
-        write_with_tabs(f, self.line)?;
-        f.write_str("\n  ")?;
-        repeat(f, " ", digits(number))?;
-        f.write_str(" | ")?;
-        write_below(f, " ", ' ', self.before)?;
+    /// Adds two lines: the text behind a gutter with its number, and carets below the place, one at least. The gutter keeps a line
+    /// of a text from being the beginning of a line of what is written: a code host takes some of those for commands.
+    pub fn push_to(&self, out: &mut String) -> Result<(), AllocError> {
+        out.push_str("  ")?;
+        let start = out.len();
+        push_number(out, self.number as u64)?;
+        let digits = out.len().saturating_sub(start);
+        out.push_str(" | ")?;
+        push_with_tabs(out, self.line)?;
+        out.push_str("\n  ")?;
+        push_run(out, BLANKS, digits)?;
+        out.push_str(" | ")?;
+        push_below(out, BLANKS, ' ', self.before)?;
         let last = self.before.chars().next_back().unwrap_or(' ');
         match self.within {
-            "" => f.write_str("^")?,
-            within => write_below(f, "^", last, within)?,
+            "" => out.push_str("^")?,
+            within => push_below(out, CARETS, last, within)?,
         }
-        f.write_str("\n")
+        out.push_str("\n")
     }
-}
-
-/// How many digits a number has.
-fn digits(number: usize) -> usize {
-    let mut rest = number / 10;
-    let mut count = 1usize;
-    // a number of 64 bits has twenty
-    for _ in 0..20 {
-        if rest == 0 {
-            break;
-        }
-        rest /= 10;
-        count = count.saturating_add(1);
-    }
-    count
 }
 
 /// What stands before the first end of a line.
 fn beginning_of_line(text: &str) -> &str {
     let mut size = 0usize;
-    for c in text.chars().take(MAX_SHOWN) {
-        if c == '\n' || c == '\r' {
+    let mut characters = 0usize;
+    for byte in text.bytes() {
+        if is_first_of_character(byte) {
+            characters = characters.saturating_add(1);
+        }
+        if byte == b'\n' || byte == b'\r' || characters > MAX_SHOWN {
             break;
         }
-        size = size.saturating_add(c.len_utf8());
+        size = size.saturating_add(1);
     }
     text.get(..size).unwrap_or("")
 }
 
-/// What stands behind the last end of a line.
+/// The part of a text behind the last end of a line.
 fn end_of_line(text: &str) -> &str {
     let mut size = 0usize;
-    for c in text.chars().rev().take(MAX_SHOWN) {
-        if c == '\n' {
+    let mut characters = 0usize;
+    for byte in text.bytes().rev() {
+        if byte == b'\n' || characters == MAX_SHOWN {
             break;
         }
-        size = size.saturating_add(c.len_utf8());
+        size = size.saturating_add(1);
+        if is_first_of_character(byte) {
+            characters = characters.saturating_add(1);
+        }
     }
     text.get(text.len().saturating_sub(size)..).unwrap_or("")
 }
 
-/// Writes a text, whose tabs stay.
-fn write_with_tabs<W: fmt::Write>(f: &mut fmt::Formatter<W>, text: &str) -> fmt::Result {
-    let mut before = ' ';
-    for c in text.chars() {
-        if c == '\t' {
-            f.write_str("\t")?;
-        } else {
-            write_shown(f, before, c)?;
+/// Adds a text, whose tabs stay.
+fn push_with_tabs(out: &mut String, text: &str) -> Result<(), AllocError> {
+    if is_plain(text) {
+        return out.push_str(text);
+    }
+    let mut is_first = true;
+    for part in text.split('\t') {
+        if !is_first {
+            out.push_str("\t")?;
         }
-        before = c;
+        is_first = false;
+        push_shown(out, part)?;
     }
     Ok(())
 }
 
-/// Writes a mark so many times as fill the width of a text behind a character, with the tabs of the text.
-fn write_below<W: fmt::Write>(
-    f: &mut fmt::Formatter<W>,
-    mark: &'static str,
+/// Adds marks of this run that fill the width of a text behind a character, with the tabs of the text.
+fn push_below(
+    out: &mut String,
+    run: &'static str,
     before: char,
     text: &str,
-) -> fmt::Result {
+) -> Result<(), AllocError> {
+    if is_plain(text) {
+        return push_run(out, run, text.len());
+    }
     let mut before = before;
-    for c in text.chars() {
-        if c == '\t' {
-            f.write_str("\t")?;
-        } else {
-            repeat(f, mark, shown_width(before, c))?;
+    let mut is_first = true;
+    for part in text.split('\t') {
+        if !is_first {
+            out.push_str("\t")?;
+            before = '\t';
         }
-        before = c;
+        is_first = false;
+        push_run(out, run, width(before, part))?;
     }
     Ok(())
 }
 
-/// Writes a text so many times.
-fn repeat<W: fmt::Write>(
-    f: &mut fmt::Formatter<W>,
-    text: &'static str,
-    times: usize,
-) -> fmt::Result {
-    for _ in 0..times {
-        f.write_str(text)?;
+/// How many places a text takes behind a character.
+fn width(before: char, text: &str) -> usize {
+    let mut before = before;
+    let mut width = 0usize;
+    for c in text.chars() {
+        width = width.saturating_add(shown_width(before, c));
+        before = c;
+    }
+    width
+}
+
+/// Adds so many marks of a run.
+fn push_run(out: &mut String, run: &'static str, count: usize) -> Result<(), AllocError> {
+    let mut left = count;
+    for _ in 0..=count / RUN {
+        out.push_str(run.get(..left.min(RUN)).unwrap_or(""))?;
+        left = left.saturating_sub(RUN);
     }
     Ok(())
 }

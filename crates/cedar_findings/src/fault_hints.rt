@@ -1,18 +1,18 @@
-// What may help against faults of texts.
+// Hints against faults of texts.
 use crate::faults::{Trouble, Written, push_hint};
 use cedar_reading::{Expected, Fault};
 use std::alloc::AllocError;
 
-/// What may help where JSON is read as Cedar's own syntax.
+/// The hint for JSON that is read as Cedar's own syntax.
 const JSON: &str = "JSON is read where a file begins with it, or by `--input json`";
 
-/// What may help at a key that has other characters than a word.
+/// The hint at a key with characters that a word cannot have.
 const KEY: &str = "a key that is no word stands in quotes, as `\"a-b\"`";
 
-/// How many digits a decimal number has behind its point at most.
+/// The number of digits that a decimal number may have behind its point.
 const MOST_PLACES: usize = 4;
 
-/// What may help where something else is expected.
+/// The hint at a fault, or an empty text.
 pub(crate) fn hint(written: Written, trouble: Trouble, read: &str) -> &'static str {
     let is_expected = matches!(
         trouble,
@@ -32,7 +32,7 @@ pub(crate) fn hint(written: Written, trouble: Trouble, read: &str) -> &'static s
     }
 }
 
-/// What may help in a policy.
+/// The hint in a policy.
 fn hint_in_policy(trouble: Trouble, read: &str) -> &'static str {
     match read {
         "=" => "`==` compares",
@@ -53,7 +53,7 @@ fn hint_in_policy(trouble: Trouble, read: &str) -> &'static str {
     }
 }
 
-/// What may help where this is read, by what is expected there.
+/// The hint for a text that is read where another part is expected.
 fn hint_by_place(trouble: Trouble, read: &str) -> &'static str {
     let is_text = read.starts_with('"');
     match (trouble, read) {
@@ -75,7 +75,7 @@ fn hint_by_place(trouble: Trouble, read: &str) -> &'static str {
     }
 }
 
-/// What may help in a schema.
+/// The hint in a schema.
 fn hint_in_schema(trouble: Trouble, read: &str) -> &'static str {
     match (trouble, read) {
         (_, "{") => JSON,
@@ -86,12 +86,12 @@ fn hint_in_schema(trouble: Trouble, read: &str) -> &'static str {
     }
 }
 
-/// Whether a mark seems to be one of a key that stands without quotes.
+/// Whether a mark seems to belong to a key without quotes.
 fn is_in_key(read: &str) -> bool {
     read.starts_with('-') || matches!(read, "." | "/" | "+" | "*" | "$" | "#" | "@" | "%")
 }
 
-/// Adds how a number with a fraction is written, where its places are read at this byte as the name of an attribute.
+/// Adds the way to write a number with a fraction, if its places are read at this byte as the name of an attribute.
 pub(crate) fn push_fraction(
     message: &mut String,
     text: &str,
@@ -111,7 +111,7 @@ pub(crate) fn push_fraction(
     }
 }
 
-/// The digits before the point that stands right before a byte.
+/// The digits before the point that ends right before a byte.
 fn whole_before_point(text: &str, start: usize) -> Option<&str> {
     let before = text.get(..start)?.strip_suffix('.')?;
     let front = before.trim_end_matches(|c: char| c.is_ascii_digit());
@@ -120,7 +120,7 @@ fn whole_before_point(text: &str, start: usize) -> Option<&str> {
     (!digits.is_empty() && !is_in_word).then_some(digits)
 }
 
-/// The type of Cedar that may be meant by the name that a type has elsewhere.
+/// The hint with Cedar's name for a type that has this name in other languages.
 pub(crate) fn meant_type(name: &str) -> &'static str {
     match name {
         "string" | "str" | "Str" | "text" | "Text" => "texts are of the type `String`",
@@ -144,7 +144,7 @@ pub(crate) fn meant_type(name: &str) -> &'static str {
     }
 }
 
-/// Whether a name is read in the place of an expression.
+/// Whether a name is read in place of an expression.
 fn is_name(trouble: Trouble, read: &str) -> bool {
     let is_word = read.starts_with(|c: char| c.is_alphabetic());
     is_word

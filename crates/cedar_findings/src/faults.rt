@@ -1,4 +1,4 @@
-//! What is wrong with texts that cannot be read, in words.
+//! Faults of texts that cannot be read, in words.
 use crate::fault_hints::{hint, is_alias, meant_type, push_fraction};
 use cedar_reading::{
     Expected, Fault, MAX_GRAMMAR_STEPS, ReadError, RefusedName, SchemaFault, SchemaReadError,
@@ -8,20 +8,20 @@ use cedar_types::base::{Loc, SchemaError};
 use std::alloc::{AllocError, Global};
 use thiserror::Error;
 
-/// How many characters are shown of what was read in place of something else.
+/// The number of characters that are shown of an unexpected text.
 const MAX_SHOWN: usize = 40;
 
-/// What may help behind a text in quotes of several lines.
+/// The hint behind a text in quotes that has several lines.
 const LONG_TEXT: &str =
     "the text in quotes before it began on another line: it may have lost its end there";
 
-/// What may help behind a name that is not that of an entity type.
+/// The hint behind a name of a common type in place of an entity type.
 const ALIAS: &str = "it is the name of a common type, and of no entity type";
 
-/// What is wrong with a name that `shadowing_name` finds.
+/// The fault of a name that `shadowing_name` finds.
 const HIDES: &str = "a name of a namespace that hides one outside of namespaces";
 
-/// What is wrong with a text, and where.
+/// A fault of a text, with its place.
 #[derive(Debug, Drop, Error)]
 #[error("{text}")]
 pub struct TextFault {
@@ -29,7 +29,7 @@ pub struct TextFault {
     pub text: String,
 }
 
-/// What kind of text is read.
+/// The kind of text that is read.
 #[derive(Clone, Copy, PartialEq, Eq)]
 pub enum Written {
     Schema,
@@ -38,7 +38,7 @@ pub enum Written {
     Data,
 }
 
-/// What is wrong at a place, for people.
+/// A fault at a place, for people.
 #[derive(Clone, Copy, Debug, Error)]
 pub(crate) enum Trouble {
     #[error("nested too deep: {0} brackets and operators are read inside each other, or {0} links of a chain", MAX_GRAMMAR_STEPS)]
@@ -63,7 +63,7 @@ pub(crate) enum Trouble {
     Other(Fault),
 }
 
-/// The fault that reading met. It fails where it was memory that was refused.
+/// The fault that reading met. If the cause is refused memory, the answer is an `AllocError`.
 pub fn read_fault(
     alloc: Global,
     written: Written,
@@ -99,7 +99,7 @@ pub fn read_fault(
     })
 }
 
-/// The number that begins with the minus at this byte, as far as it stands on one line; else the minus alone.
+/// The number that begins with the minus at this byte, if it stands on one line; else only the minus.
 fn negative_number(text: &str, start: usize) -> &str {
     let rest = text.get(start..).unwrap_or("");
     let inside = rest.strip_prefix('-').unwrap_or("");
@@ -124,7 +124,7 @@ fn is_behind_long_text(text: &str, start: usize) -> bool {
     }
 }
 
-/// What a fault at this token is.
+/// The trouble that a fault at this token is.
 fn trouble_of(written: Written, fault: Fault, token: &str) -> Trouble {
     match fault {
         Fault::TooDeep if written == Written::Schema => Trouble::DeepType,
@@ -136,14 +136,14 @@ fn trouble_of(written: Written, fault: Fault, token: &str) -> Trouble {
         Fault::Text => Trouble::OpenText,
         Fault::CarriageReturn => Trouble::CarriageReturn,
         Fault::Missing(word) => Trouble::Missing(word),
-        // the comma before the part is missing, so that the parts end there
+        // the comma before the part is missing, so the parts seem to end there
         Fault::Expected(Expected::Principal) if token == "principal" => Trouble::Missing(","),
         Fault::Expected(Expected::Resource) if token == "resource" => Trouble::Missing(","),
         _ => Trouble::Other(fault),
     }
 }
 
-/// What is wrong, with what was read and what may help.
+/// The words for a fault: the trouble, the text that was read, and the hint.
 fn trouble_text(
     alloc: Global,
     written: Written,
@@ -160,7 +160,7 @@ fn trouble_text(
     Ok(message)
 }
 
-/// Adds what may help, if something is known.
+/// Adds a hint, if one is known.
 pub(crate) fn push_hint(message: &mut String, hint: &str) -> Result<(), AllocError> {
     if hint.is_empty() {
         return Ok(());
@@ -169,7 +169,7 @@ pub(crate) fn push_hint(message: &mut String, hint: &str) -> Result<(), AllocErr
     message.push_str(hint)
 }
 
-/// The beginning of what was read, of one line.
+/// The beginning of the text that was read, up to the end of its line.
 pub(crate) fn beginning(text: &str) -> &str {
     let line = text.lines().next().unwrap_or("");
     match line.char_indices().nth(MAX_SHOWN) {
@@ -178,7 +178,7 @@ pub(crate) fn beginning(text: &str) -> &str {
     }
 }
 
-/// Why a text gives no schema. It fails where it is memory that was refused.
+/// The reason why a text gives no schema. If the cause is refused memory, the answer is an `AllocError`.
 pub fn schema_fault(
     alloc: Global,
     text: &str,
@@ -193,7 +193,7 @@ pub fn schema_fault(
     }
 }
 
-/// Why a schema is refused, for this name.
+/// The fault of a schema that is refused because of this name.
 fn refused_fault(
     alloc: Global,
     text: &str,
@@ -210,7 +210,7 @@ fn refused_fault(
     Ok(refused)
 }
 
-/// The faults of a schema's text, by place, the first hundred; `first` alone, which is one of it, where none can be told.
+/// The first hundred faults of a schema's text, by place; only `first`, which is one of them, if none can be told.
 pub fn all_schema_faults(
     alloc: Global,
     text: &str,
@@ -236,12 +236,13 @@ fn told_fault(alloc: Global, text: &str, fault: SchemaFault) -> Result<TextFault
     }
 }
 
-/// What is wrong with a schema that can be had, as Cedar has it: a name of a namespace that hides one outside.
+/// The fault of a schema that can be read and that Cedar refuses all the same: a name of a namespace hides one outside of
+/// namespaces.
 pub fn shadowing_fault(alloc: Global, text: &str) -> Result<Option<TextFault>, AllocError> {
     hiding_fault(alloc, text, shadowing_name(alloc, text)?)
 }
 
-/// The fault of a schema whose text has this name of a namespace that hides one outside, if it has one.
+/// The fault of a schema in whose text this name of a namespace hides one outside, if there is such a name.
 pub fn hiding_fault(
     alloc: Global,
     text: &str,
@@ -274,7 +275,7 @@ fn refusal(
     })
 }
 
-/// Why a schema is refused, in words.
+/// The words for a schema's refusal.
 fn refusal_text(fault: &SchemaError) -> &'static str {
     match fault {
         SchemaError::DuplicateEntityType => "an entity type is declared twice",

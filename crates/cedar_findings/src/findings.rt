@@ -1,19 +1,19 @@
-//! What is said of a policy.
+//! Findings and verdicts on a policy.
 use crate::codes::Code;
 use cedar_types::base::{EntityDerefLevel, Loc, Template};
 use std::alloc::{AllocError, Global};
 
-/// What a finding says of the policy.
+/// The severity of a finding.
 #[derive(Clone, Copy, PartialEq, Eq, PartialOrd, Ord)]
 pub enum Severity {
-    /// It is refused.
+    /// The policy is refused.
     Error,
-    /// It may be a slip.
+    /// The policy may have a slip.
     Warning,
 }
 
 impl Severity {
-    /// What it is called.
+    /// The word for the severity.
     pub fn text(self) -> &'static str {
         match self {
             Severity::Error => "error",
@@ -22,25 +22,25 @@ impl Severity {
     }
 }
 
-/// What was found, and where. Findings are ordered by place.
+/// A finding with its place. Findings are ordered by place.
 #[derive(PartialEq, Eq, PartialOrd, Ord, Drop)]
 pub struct Finding {
     pub start: usize,
     pub end: usize,
     pub text: String,
-    /// What may help; empty where that is not known.
+    /// The hint; empty if none is known.
     pub hint: String,
-    /// The other types of which the same is said at the same place: the first few, and how many more there are.
+    /// The other types with this finding at this place: the first few, and the number of the others.
     pub also: Vec<String>,
-    /// The environments that an error comes in, where it does not come in all; else none.
+    /// The environments of an error; none if it holds in all.
     pub environments: Vec<String>,
     pub code: Code,
 }
 
-/// How many entities a policy or a set of policies dereferences, one after another.
+/// The number of entities that a policy or a set of policies dereferences, one after another.
 #[derive(Clone, Copy)]
 pub enum Requirement {
-    /// It is not said of a policy whose check fails, nor of a set of such policies.
+    /// No number is given: in Partial, for a policy whose check fails, and for a set of such policies.
     Unsaid,
     /// No number is enough.
     NoLevel,
@@ -54,7 +54,7 @@ impl Default for Requirement {
 }
 
 impl Requirement {
-    /// What two policies need together.
+    /// The requirement of two policies together: the greater level, and none is enough if none is for one of them.
     pub fn join(self, other: Requirement) -> Requirement {
         match (self, other) {
             (Requirement::NoLevel, _) | (_, Requirement::NoLevel) => Requirement::NoLevel,
@@ -66,23 +66,23 @@ impl Requirement {
     }
 }
 
-/// What is said of a policy.
+/// The verdict on a policy.
 #[derive(Drop)]
 pub struct Verdict {
     pub is_accepted: bool,
     pub requirement: Requirement,
-    /// The first errors, in ascending order, each once. A policy that is refused has one at least.
+    /// The first errors, in ascending order, each once: one at least where the policy is refused, and none where it is accepted.
     pub errors: Vec<Finding>,
-    /// The first warnings likewise, as many as there is room for behind the errors.
+    /// The first warnings, in ascending order, as many as there is room for behind the errors.
     pub warnings: Vec<Finding>,
-    /// How many more errors and warnings there are.
+    /// The number of errors and warnings that are not listed.
     pub others: usize,
-    /// How many warnings there are among all.
+    /// The number of all warnings, listed or not.
     pub warning_count: u64,
 }
 
 impl Finding {
-    /// The finding of this text in a policy, with nothing else: at this place, or where there is none at that of the policy.
+    /// A finding of this text in a policy and nothing else: at this place, or at the place of the policy if none is given.
     pub fn new(
         alloc: Global,
         policy: &Template,

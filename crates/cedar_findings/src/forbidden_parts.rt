@@ -1,4 +1,4 @@
-//! What Cedar's own parser refuses in conditions, though it can be read: slots, unknowns, calls of functions that there are not,
+//! Parts of conditions that Cedar's own parser refuses, though they can be read: slots, unknowns, calls of undefined functions,
 //! and functions that are called as methods, or methods as functions.
 use crate::faults::{TextFault, push_hint};
 use crate::hints::hint_for_call;
@@ -8,10 +8,10 @@ use cedar_extensions::functions::{is_constructor, is_method};
 use cedar_types::base::{Expr, ExprKind, ExtensionSchemas, Loc, Name, Template};
 use std::alloc::{AllocError, Global};
 
-/// What stands in a condition and may not. Validation promises nothing of policies with slots or unknowns there. A call of no
-/// function may stand nowhere, not even where typing never looks: the functions are those of Cedar, and those of this table,
-/// which a host may have of its own. How functions are called is seen in the text; of JSON there is none, since it calls all of
-/// them alike.
+/// The fault of a part of a condition that may not stand there. Slots and unknowns are refused, because validation promises
+/// nothing of policies with them. A call of an undefined function is refused even if typing never looks there; the functions
+/// are Cedar's and those of this table, in which a host may have its own. The way of a call shows only in a text: JSON gives
+/// none, because it writes all calls alike.
 pub fn forbidden_part<C>(
     alloc: Global,
     functions: &ExtensionSchemas<C>,
@@ -21,8 +21,7 @@ pub fn forbidden_part<C>(
     Ok(marks_unless_forbidden(alloc, functions, text, policy)?.err())
 }
 
-/// The parts of a policy that may be read as others, if nothing in it is forbidden, or the fault of a part that is. Both take one
-/// walk.
+/// The parts of a policy that may be read as others, or the fault of a forbidden part. One walk finds both.
 pub fn marks_unless_forbidden<C>(
     alloc: Global,
     functions: &ExtensionSchemas<C>,
@@ -68,14 +67,14 @@ fn why_forbidden<C>(
     Ok(Some(String::from_str(alloc, message)?))
 }
 
-/// Whether there is a function of this name: in Cedar, or in this table.
+/// Whether Cedar or this table has a function of this name.
 fn is_function<C>(functions: &ExtensionSchemas<C>, name: &Name) -> bool {
     let own = name.basename.as_str();
     let is_of_cedar = name.path.is_empty() && (is_constructor(own) || is_method(own));
     is_of_cedar || functions.func_type(name).is_some()
 }
 
-/// That there is no function of a name, and what may be meant by it.
+/// The fault that there is no function of a name, with the meant one if one is near.
 fn no_function(
     alloc: Global,
     text: &str,
@@ -88,7 +87,7 @@ fn no_function(
     Ok(message)
 }
 
-/// How a function is called, where it is called as a method, and a method where it is called as a function.
+/// The right way to call a function that is called as a method, or a method that is called as a function.
 fn explain_call(
     alloc: Global,
     text: &str,

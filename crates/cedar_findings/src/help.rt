@@ -1,27 +1,27 @@
-//! What `cedar-validate` says of itself: its use in some lines, and its help. Both are made of the table of words.
+//! Usage and help of `cedar-validate`. Both are made of the table of words.
 use crate::options::{Asks, Values, WORDS, Word};
 use std::alloc::{AllocError, Global};
 
-/// How many columns the lines of the use may have.
+/// The width of the lines of the usage.
 const WIDTH: usize = 96;
 
-/// What stands behind the options.
+/// The words behind the options.
 const FILES: &str = "[--] SCHEMA POLICY..";
 
-/// What the program does.
+/// The purpose of the program.
 pub const PURPOSE: &str = "\
 Validates the policies of some files by a schema, and says what is wrong and where.
 With --entities or --request it checks data by the schema too, or alone.
 ";
 
-/// What is no option.
+/// The words that are no options.
 const OTHERS: &str = "  --
         each word behind it is a file, whatever it begins with
   -
         in place of a file: standard input
 ";
 
-/// Calls that are right.
+/// Examples of calls.
 pub const EXAMPLES: [&str; 4] = [
     "cedar-validate --level 1 photos.cedarschema share.cedar",
     "cedar-validate --schema photos.cedarschema --policies share.cedar --template-linked links.json",
@@ -29,7 +29,7 @@ pub const EXAMPLES: [&str; 4] = [
     "cedar-validate --entities entities.json --request request.json photos.cedarschema",
 ];
 
-/// The exit statuses: the program's own, that of `cedar validate`, which --cedar-status gives, and when it comes.
+/// The exit statuses: the program's own, the one of `cedar validate`, which --cedar-status gives, and the outcome.
 pub const STATUSES: [(&str, &str, &str); 4] = [
     (
         "0",
@@ -49,7 +49,7 @@ pub const STATUSES: [(&str, &str, &str); 4] = [
     ),
 ];
 
-/// How the program is called: each word of the table.
+/// The usage of the program: each word of the table.
 pub fn usage(alloc: Global) -> Result<String, AllocError> {
     let mut shown = String::from_str(alloc, "usage: cedar-validate")?;
     let mut column = shown.len();
@@ -65,7 +65,7 @@ pub fn usage(alloc: Global) -> Result<String, AllocError> {
     Ok(shown)
 }
 
-/// What the program does, each option, and each exit status.
+/// The help of the program: its purpose, each option, and each exit status.
 pub fn help(alloc: Global) -> Result<String, AllocError> {
     let mut shown = usage(alloc)?;
     shown.push_str(PURPOSE)?;
@@ -87,7 +87,7 @@ pub fn help(alloc: Global) -> Result<String, AllocError> {
     Ok(shown)
 }
 
-/// Adds a part behind a blank, or on a new line where this one has no room.
+/// Adds a part behind a blank, or on a new line if this one has no room.
 fn push_wrapped(shown: &mut String, column: &mut usize, part: &str) -> Result<(), AllocError> {
     let end = column.saturating_add(part.len()).saturating_add(1);
     if end > WIDTH {
@@ -113,7 +113,7 @@ pub(crate) fn push_names(shown: &mut String, word: &Word, between: &str) -> Resu
     Ok(())
 }
 
-/// Adds the values that a word takes, behind a blank, if it takes some.
+/// Adds the values that a word takes behind a blank, if it takes some.
 pub(crate) fn push_values(shown: &mut String, word: &Word) -> Result<(), AllocError> {
     let Asks::Value(_, values) = word.asks else {
         return Ok(());

@@ -1,4 +1,4 @@
-//! What may help against an error or a warning, in words that can be copied where that is possible.
+//! Hints against errors and warnings, in words that can be copied if possible.
 mod accesses;
 mod calls;
 mod names;
@@ -11,7 +11,7 @@ pub(crate) use calls::hint_for_call;
 use cedar_types::base::{Template, ValidationError, ValidationWarning, ValidatorSchema};
 use std::alloc::{AllocError, Global};
 
-/// What may help against an error of a policy that is read from a text, by a schema; empty where that is not known.
+/// The hint against an error of a policy in a text, by a schema; empty if none is known.
 pub fn hint_for_error(
     alloc: Global,
     schema: &ValidatorSchema,
@@ -49,7 +49,7 @@ pub fn hint_for_error(
     }
 }
 
-/// What may help against an error, whatever the schema and the text are.
+/// The hint against an error that depends neither on the schema nor on the text.
 fn plain_hint(error: &ValidationError) -> &'static str {
     match error {
         ValidationError::NoTagsAllowed(_) => "the schema declares no tags for it",
@@ -63,7 +63,7 @@ fn plain_hint(error: &ValidationError) -> &'static str {
     }
 }
 
-/// What may help against a warning of a policy, by a schema; empty where that is not known.
+/// The hint against a warning of a policy, by a schema; empty if none is known.
 pub fn hint_for_warning(
     alloc: Global,
     schema: &ValidatorSchema,

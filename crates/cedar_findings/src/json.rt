@@ -1,10 +1,10 @@
-//! A writer of JSON. It alone writes brackets, commas, colons, quotes and escapes.
+//! Writing of JSON. Nothing else writes brackets, commas, colons, quotes and escapes.
 use crate::digits::push_number;
 use crate::escapes::is_hidden;
 use std::alloc::AllocError;
 
-/// Writes values of JSON behind a text, one after another. It remembers whether the next value stands behind another, so that a
-/// comma is due; nothing else has to be known at any depth, because a value that ends is one that stands before the next.
+/// Writes values of JSON behind a text, one after another. It remembers only whether a comma is due, at any depth, because the
+/// end of a nested value is again a value before the next.
 #[derive(Clone, Copy)]
 pub struct JsonWriter {
     is_behind_value: bool,
@@ -18,7 +18,7 @@ impl JsonWriter {
         }
     }
 
-    /// Begins an object. Each of its members is a key and then a value.
+    /// Begins an object. You must add a key and then a value for each member.
     pub fn begin_object(&mut self, out: &mut String) -> Result<(), AllocError> {
         self.begin(out, "{")
     }
@@ -38,7 +38,7 @@ impl JsonWriter {
         self.end(out, "]")
     }
 
-    /// Adds a key, behind which its value has to come.
+    /// Adds a key. You must add its value next.
     pub fn key(&mut self, out: &mut String, key: &str) -> Result<(), AllocError> {
         self.text(out, key)?;
         out.push_str(":")?;
@@ -120,7 +120,7 @@ impl JsonWriter {
         self.number(out, number)
     }
 
-    /// Begins a line between two values, where JSON takes blanks. A comma that is due comes before it.
+    /// Begins a line between two values, where JSON allows blanks. A comma that is due comes before the line's end.
     pub fn begin_line(&mut self, out: &mut String) -> Result<(), AllocError> {
         self.begin(out, "\n")
     }
@@ -130,7 +130,7 @@ impl JsonWriter {
         out.push_str("\n")
     }
 
-    /// Adds the beginning of the next value, behind a comma where one is due.
+    /// Adds the beginning of the next value, behind a comma if one is due.
     fn begin(&mut self, out: &mut String, beginning: &str) -> Result<(), AllocError> {
         if self.is_behind_value {
             out.push_str(",")?;
@@ -146,13 +146,13 @@ impl JsonWriter {
     }
 }
 
-/// Whether a byte is a character of ASCII that stands in a text as it is, whatever stands before it.
+/// Whether a byte is a character of ASCII that stays as it is in a text, whatever stands before it.
 fn is_plain(byte: u8) -> bool {
     matches!(byte, b' '..=b'~') && byte != b'"' && byte != b'\\' && byte != b'#'
 }
 
-/// Adds a character of a text: a quote and a backslash behind a backslash, and one that [`is_hidden`], or a `#` behind another,
-/// as `\u` with its digits.
+/// Adds a character of a text. A quote or a backslash gets a backslash before it; a character that [`is_hidden`], or a `#`
+/// behind another, is written as `\u` with its digits.
 fn push_char(out: &mut String, c: char) -> Result<(), AllocError> {
     if c == '"' || c == '\\' {
         out.push('\\')?;
@@ -164,7 +164,7 @@ fn push_char(out: &mut String, c: char) -> Result<(), AllocError> {
     out.push(c)
 }
 
-/// Adds the number of a character: as two units where one is too small.
+/// Adds the number of a character: as a pair of units if one is too small.
 fn push_units(out: &mut String, number: u32) -> Result<(), AllocError> {
     if number < 0x10000 {
         return write!(out, "\\u{number:04x}");

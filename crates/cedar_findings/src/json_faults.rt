@@ -1,4 +1,4 @@
-//! What is wrong with texts of JSON that cannot be read, in words.
+//! Faults of texts of JSON that cannot be read, in words.
 use crate::fault_hints::meant_type;
 use crate::faults::{TextFault, Written, beginning, push_hint};
 use crate::similar::Search;
@@ -6,10 +6,10 @@ use cedar_json::{Fault, FormError, FormFault, MAX_DEPTH};
 use cedar_types::base::Loc;
 use std::alloc::{AllocError, Global};
 
-/// What may help where one file was taken for the other.
+/// The hint if one file was taken for the other.
 const ORDER: &str = "the schema is the first file, and policies come behind it";
 
-/// The keys that data has.
+/// The keys of data.
 const KEYS_OF_DATA: [&str; 13] = [
     "uid",
     "attrs",
@@ -26,7 +26,8 @@ const KEYS_OF_DATA: [&str; 13] = [
     "args",
 ];
 
-/// Why a text of JSON gives no schema, no policy or no data. It fails where it was memory that was refused.
+/// The reason why a text of JSON gives no schema, no policy or no data. If the cause is refused memory, the answer is an
+/// `AllocError`.
 pub fn form_fault(
     alloc: Global,
     written: Written,
@@ -82,15 +83,15 @@ fn push_nearest_key(message: &mut String, alloc: Global, wrong: &str) -> Result<
     }
 }
 
-/// What is said of what stands at a fault.
+/// The mention of the text at a fault.
 #[derive(Clone, Copy)]
 enum Mention {
     Nothing,
-    /// That it is meant.
+    /// The text is named, because it is the one that is wrong.
     Name,
-    /// That it is read in the place of something else.
+    /// The text is named as read in place of something else.
     Token,
-    /// How deep it may stand.
+    /// The greatest depth is named.
     MostDepth,
 }
 
@@ -120,7 +121,7 @@ fn mention_of(fault: FormFault) -> Mention {
     }
 }
 
-/// What may help.
+/// The hint at a fault, or an empty text.
 fn hint(written: Written, text: &str, start: usize, fault: FormFault, token: &str) -> &'static str {
     let is_schema = written == Written::Schema;
     match fault {
@@ -133,7 +134,7 @@ fn hint(written: Written, text: &str, start: usize, fault: FormFault, token: &st
     }
 }
 
-/// What may help where a text is no JSON, at its beginning or elsewhere.
+/// The hint in a text that is no JSON, at its beginning or elsewhere.
 fn hint_in_json(fault: Fault, token: &str, is_first: bool) -> &'static str {
     match fault {
         Fault::Value | Fault::Key if token == "'" => "texts stand in double quotes",
@@ -151,12 +152,12 @@ fn is_effect(token: &str) -> bool {
     matches!(token, "\"permit\"" | "\"forbid\"")
 }
 
-/// Whether nothing but blanks stands before a byte.
+/// Whether only blanks stand before a byte.
 fn is_first(text: &str, start: usize) -> bool {
     text.get(..start).unwrap_or("").trim_start().is_empty()
 }
 
-/// The beginning of what stands at a byte: a text in quotes, a word or a number, or one character.
+/// The beginning of the token at a byte: a text in quotes, a word or a number, or one character.
 fn token_at(text: &str, start: usize) -> &str {
     let rest = text.get(start..).unwrap_or("");
     let size = match rest.chars().next() {
@@ -168,7 +169,7 @@ fn token_at(text: &str, start: usize) -> &str {
     beginning(rest.get(..size).unwrap_or(""))
 }
 
-/// How many bytes the text in quotes has that stands first: all, where it does not end.
+/// The size in bytes of the text in quotes that stands first: all bytes, if it does not end.
 fn quoted_size(text: &str) -> usize {
     let mut is_escaped = false;
     for (at, c) in text.char_indices().skip(1) {

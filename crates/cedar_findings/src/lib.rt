@@ -1,5 +1,4 @@
-//! What a person asks of a schema and of policies in files: arguments, texts, and how findings are
-//! shown.
+//! Arguments of a call, texts of files, and findings in the formats in which a person or a program reads them.
 #![tactic(auto)]
 
 pub mod arguments;

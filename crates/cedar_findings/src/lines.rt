@@ -1,4 +1,4 @@
-//! What is found, as lines for people.
+//! Findings as lines for people.
 use crate::digits::push_number;
 use crate::escapes::{push_shown, push_shown_id};
 use crate::excerpts::Excerpt;
@@ -70,7 +70,7 @@ fn push_policy(
     push_requirement(out, verdict.requirement)
 }
 
-/// Adds what is needed, and ends the line.
+/// Adds the required level, and ends the line.
 fn push_requirement(out: &mut String, requirement: Requirement) -> Result<(), AllocError> {
     match requirement {
         Requirement::Unsaid => out.push_str("\n"),
@@ -101,7 +101,7 @@ fn push_finding(
     Ok(())
 }
 
-/// Adds a line that belongs to the one before, of these words and a text.
+/// Adds an indented line, which belongs to the line before, of these words and a text.
 fn push_indented(out: &mut String, words: &str, text: &str) -> Result<(), AllocError> {
     out.push_str("  ")?;
     out.push_str(words)?;
@@ -109,7 +109,7 @@ fn push_indented(out: &mut String, words: &str, text: &str) -> Result<(), AllocE
     out.push_str("\n")
 }
 
-/// Adds the line of what is said of a place, with what may help where that is known, and the lines of the place.
+/// Adds the line of a message at a place, with the hint if one is known, and the lines of the excerpt.
 fn push_message(
     out: &mut String,
     place: Place<'_>,
@@ -125,11 +125,11 @@ fn push_message(
         out.push_str("; ")?;
         push_shown(out, hint)?;
     }
-    let excerpt = Excerpt::new(place.source.text, place.loc, place.at.line);
-    write!(out, "\n{excerpt}")
+    out.push_str("\n")?;
+    Excerpt::new(place.source.text, place.loc, place.at.line).push_to(out)
 }
 
-/// Adds the line of a file that cannot be had.
+/// Adds the line of a file that cannot be read.
 fn push_missing(out: &mut String, file: &str, why: &str) -> Result<(), AllocError> {
     push_shown(out, file)?;
     out.push_str(": fault: ")?;

@@ -1,35 +1,35 @@
-//! Whether the letters of a text may be taken for others: letters of several scripts, and letters of another script, or of another
+//! Letters that may be taken for others: letters of several scripts in one text, and letters of another script, or of another
 //! kind, that look like Latin ones. The table of those is small: Unicode's own has thousands.
 use ucd_script::Script;
 
 /// The Cyrillic letters that look like Latin ones.
 const CYRILLIC: &str = "АВЕЅІЈКМНОРСТУХаеорсухѕіјһӏԁԛԝ";
 
-/// The Greek letters that do.
+/// The Greek letters that look like Latin ones.
 const GREEK: &str = "ΑΒΕΖΗΙΚΜΝΟΡΤΥΧνο";
 
-/// What is known of the letters of a text, as they are added.
+/// The properties of a text's letters, as they are added.
 #[derive(Clone, Copy)]
 pub struct Letters {
     scripts: Scripts,
-    /// Whether one of them is in the table.
+    /// Whether a letter is in the table.
     imitates: bool,
-    /// Whether one of them is neither in the table nor of ASCII.
+    /// Whether a letter is neither in the table nor in ASCII.
     has_others: bool,
 }
 
-/// Of which scripts all letters so far may be.
+/// The scripts that all letters so far may belong to.
 #[derive(Clone, Copy, PartialEq, Eq)]
 enum Scripts {
-    /// There are none so far.
+    /// No letters so far.
     Any,
     One(Script),
-    /// Chinese characters alone, which texts of Japanese, Korean and Bopomofo have too.
+    /// Chinese characters only, which texts of Japanese, Korean and Bopomofo have too.
     Han,
     Japanese,
     Korean,
     Bopomofo,
-    /// They are of several.
+    /// Letters of several scripts.
     Several,
 }
 
@@ -57,18 +57,18 @@ impl Letters {
         }
     }
 
-    /// Whether they are of several scripts.
+    /// Whether the letters are of several scripts.
     pub fn are_mixed(&self) -> bool {
         self.scripts == Scripts::Several
     }
 
-    /// Whether all of them look like Latin ones, and some are none.
+    /// Whether all letters look like Latin ones, and some are not Latin.
     pub fn look_latin(&self) -> bool {
         self.imitates && !self.has_others
     }
 }
 
-/// The scripts of a character. What several scripts share, as digits and marks, is of any.
+/// The scripts of a character. A character that several scripts share, for example a digit or a mark, belongs to any.
 fn scripts_of(c: char) -> Scripts {
     match Script::for_char(c) {
         Script::Common | Script::Inherited | Script::Unknown => Scripts::Any,
@@ -80,7 +80,7 @@ fn scripts_of(c: char) -> Scripts {
     }
 }
 
-/// The scripts of letters that are of these and of those.
+/// The scripts of letters that belong to both.
 fn common(some: Scripts, others: Scripts) -> Scripts {
     match (some, others) {
         (Scripts::Any, _) => others,
@@ -95,7 +95,7 @@ fn common(some: Scripts, others: Scripts) -> Scripts {
 /// Whether a character looks like a letter of ASCII and is none.
 fn looks_latin(c: char) -> bool {
     match c {
-        // the wide letters, Roman numbers, mathematical letters, and a few that are written like Latin ones
+        // wide letters, Roman numbers, mathematical letters, and a few that are written like Latin ones
         '\u{ff21}'..='\u{ff3a}' | '\u{ff41}'..='\u{ff5a}' => true,
         '\u{2160}'..='\u{217f}' | '\u{1d400}'..='\u{1d6a3}' => true,
         '\u{131}' | '\u{251}' | '\u{261}' => true,

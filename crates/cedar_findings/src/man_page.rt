@@ -1,4 +1,4 @@
-//! The page of the program for `man`. It is made of the table of words.
+//! The program's page for `man`. It is made of the table of words.
 use crate::help::{EXAMPLES, PURPOSE, STATUSES, push_names, push_values};
 use crate::options::WORDS;
 use std::alloc::{AllocError, Global};
@@ -13,7 +13,7 @@ cedar\\-validate \\- validates policies of Cedar by a schema
 .SH DESCRIPTION
 ";
 
-/// What is no option.
+/// The words that are no options.
 const OTHERS: &str = ".TP
 .B \\-\\-
 each word behind it is a file, whatever it begins with
@@ -58,7 +58,7 @@ fn push_statuses(shown: &mut String) -> Result<(), AllocError> {
     Ok(())
 }
 
-/// A text of the page, of which no character is a command.
+/// A text of the page, in which no character is a command.
 #[derive(Drop)]
 struct Roff<'a>(&'a str);
 

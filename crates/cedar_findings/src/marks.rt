@@ -1,5 +1,5 @@
-//! Characters in the ids, names and texts of a policy because of which it may be read as another one: marks of direction, since
-//! what is shown there can stand in another order than it is compared in, and letters that may be taken for others.
+//! Characters in the ids, names and texts of a policy that may make it read as another one: marks of direction, because a text
+//! can be shown in another order than it is compared in, and letters that may be taken for others.
 use crate::codes::Code;
 use crate::look_alikes::Letters;
 use cedar_types::base::{
@@ -8,7 +8,7 @@ use cedar_types::base::{
 };
 use std::alloc::{AllocError, Global};
 
-/// What has such characters.
+/// The kind of a text with such characters.
 #[derive(Clone, Copy, PartialEq, Eq)]
 enum Kind {
     Text,
@@ -22,7 +22,7 @@ enum Kind {
 pub struct Marked {
     pub place: Option<Loc>,
     pub code: Code,
-    /// What is said of it.
+    /// The words of the finding.
     pub text: &'static str,
 }
 
@@ -121,13 +121,17 @@ pub(crate) fn add_part(marked: &mut Vec<Marked>, part: &Expr) -> Result<(), Allo
     }
 }
 
-/// Adds what is said of a text, unless it was said of its place.
+/// Adds the finding of a text, unless its place has one.
 fn add_text(
     marked: &mut Vec<Marked>,
     kind: Kind,
     place: Option<Loc>,
     text: &str,
 ) -> Result<(), AllocError> {
+    // letters of ASCII are of one script, and none of its characters is a mark
+    if text.is_ascii() {
+        return Ok(());
+    }
     let mut characters = Characters::default();
     for c in text.chars() {
         characters.add(c);
@@ -165,7 +169,7 @@ fn add_characters(
     Ok(())
 }
 
-/// What is known of the characters of a text.
+/// The properties of a text's characters.
 #[derive(Clone, Copy, Default)]
 struct Characters {
     has_marks: bool,
@@ -179,8 +183,8 @@ impl Characters {
     }
 }
 
-/// What is said of these characters, if they may be taken for others. Whole texts in quotes are of any language, so that letters
-/// which look like Latin ones count in names and ids alone.
+/// The finding of these characters, if they may be taken for others. A whole text in quotes may be of any language, so letters
+/// that look like Latin ones count only in names and ids.
 fn message(kind: Kind, characters: &Characters) -> Option<(Code, &'static str)> {
     if characters.has_marks {
         return Some((Code::Direction, with_marks(kind)));

@@ -1,8 +1,8 @@
-//! What can be wrong with the words that the program is called with.
+//! Misuses of the words that the program is called with.
 use crate::escapes::Shown;
 use thiserror::Error;
 
-/// What is wrong with the words.
+/// A misuse of the words.
 #[derive(Debug, Drop, Error)]
 pub enum Misuse {
     #[error("there is no option `{}`", Shown(.0.as_str()))]

@@ -1,4 +1,4 @@
-//! The same as objects of JSON, one a line.
+//! Findings as objects of JSON, one a line.
 use crate::codes::Code;
 use crate::findings::{Finding, Requirement, Severity, Verdict};
 use crate::json::JsonWriter;
@@ -30,7 +30,7 @@ impl FindingsWriter for Objects {
     }
 }
 
-/// Adds the members of what is found.
+/// Adds the members of an entry.
 fn add_members(
     json: &mut JsonWriter,
     out: &mut String,
@@ -67,7 +67,6 @@ fn add_members(
 }
 
 /// Adds the kind of an object and its place.
-/// Adds the kind of a line, and its place.
 pub(crate) fn add_place(
     json: &mut JsonWriter,
     out: &mut String,
@@ -84,7 +83,7 @@ pub(crate) fn add_place(
     json.number_at(out, "end_column", column as u64)
 }
 
-/// Adds what is said, and what may help where that is known.
+/// Adds the words of a finding, and the hint if one is known.
 fn add_text(
     json: &mut JsonWriter,
     out: &mut String,
@@ -113,7 +112,7 @@ fn add_policy(
     add_requirement(json, out, verdict.requirement)
 }
 
-/// Adds what is needed, if that is said.
+/// Adds the required level, if it is known.
 fn add_requirement(
     json: &mut JsonWriter,
     out: &mut String,

@@ -1,4 +1,5 @@
-//! The words of the command line: one table, by which they are read, and of which the help, the completion and the page are made.
+//! Options of the command line in one table, by which they are read, and of which the help, the completion and the page are
+//! made.
 use crate::misuses::Misuse;
 
 /// An option that takes a value, as the next word or behind a `=`.
@@ -53,10 +54,10 @@ pub enum Values {
 /// A word of the command line that is an option.
 #[derive(Clone, Copy)]
 pub struct Word {
-    /// Its names, of which one or two mean the same.
+    /// One or two names for the option.
     pub names: &'static [&'static str],
     pub asks: Asks,
-    /// What it is for, in one line.
+    /// The purpose of the option, in one line.
     pub about: &'static str,
 }
 
@@ -200,7 +201,7 @@ fn is_among(names: &[&str], name: &str) -> bool {
 }
 
 impl ValueOption {
-    /// What is wrong where its value is not there, or none that it takes.
+    /// The misuse of an option whose value is missing, or is none that the option takes.
     pub fn misuse(self) -> Misuse {
         match self {
             ValueOption::Schema => Misuse::Schema,

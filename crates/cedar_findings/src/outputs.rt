@@ -1,4 +1,4 @@
-//! What is shown of a call in the format that is asked for, until it is written, and what was counted so far. Where memory is
+//! Output of a call in the format that the caller asks for, until it is written, with the counts so far. Once memory is
 //! refused, nothing more is shown.
 use crate::arguments::Task;
 use crate::changes::{ChangeTally, push_tally};
@@ -13,11 +13,11 @@ use crate::writers::FindingsWriter;
 use std::alloc::{AllocError, Global};
 use std::io;
 
-/// What is shown, and the counts.
+/// The text to write, and the counts.
 #[derive(Drop)]
 pub struct Output {
     pub format: Format,
-    /// Whether nothing is shown of accepted policies without a finding, nor how many policies there are.
+    /// Whether the output leaves out accepted policies without a finding, and the counts.
     pub is_quiet: bool,
     pub totals: Totals,
     pub changes: ChangeTally,
@@ -26,7 +26,7 @@ pub struct Output {
 }
 
 impl Output {
-    /// Nothing so far, in lines for people until another format is asked for.
+    /// An empty output, in lines for people until another format is asked for.
     pub fn new(alloc: Global, colours: Colours) -> Output {
         Output {
             format: Format::Lines(Lines),
@@ -38,17 +38,17 @@ impl Output {
         }
     }
 
-    /// What is shown and was not cleared.
+    /// The text that is shown and not yet cleared.
     pub fn shown(&self) -> &str {
         self.shown.as_str()
     }
 
-    /// Takes away what is shown, because it was written.
+    /// Clears the text, because it was written.
     pub fn clear(&mut self) {
         self.shown.clear();
     }
 
-    /// Shows what stands before all.
+    /// Shows the beginning of the output.
     pub fn begin(&mut self, alloc: Global, format: Format) -> Result<(), AllocError> {
         self.format = format;
         let mut shown = String::new(alloc);
@@ -56,7 +56,7 @@ impl Output {
         self.shown.push_str(shown.as_str())
     }
 
-    /// Shows what is found in the file of this name.
+    /// Shows the findings in the file of this name.
     pub fn show(&mut self, alloc: Global, name: &str, found: &str) -> Result<(), AllocError> {
         match (self.colours, self.format) {
             (Colours::Terminal, Format::Lines(_)) => {
@@ -89,13 +89,14 @@ impl Output {
         self.show_fault(alloc, source, fault)
     }
 
-    /// Shows that a file, or the rest of it, cannot be had.
+    /// Shows that a file, or the rest of it, cannot be read.
     pub fn show_missing(&mut self, alloc: Global, name: &str, why: &str) -> Result<(), AllocError> {
         let found = render_missing(alloc, &mut self.format, name, why)?;
         self.show(alloc, name, found.as_str())
     }
 
-    /// The text of a file, as it was read. Where it cannot be had, why is shown, and the answer is `None`.
+    /// The text of a file, as it was read. If it cannot be read, the reason is shown, and the answer is `None`; you must count
+    /// the fault.
     pub fn text_of(
         &mut self,
         alloc: Global,
@@ -116,14 +117,14 @@ impl Output {
         Ok(None)
     }
 
-    /// Shows and counts that a file has so many faults that the rest is not read.
+    /// Shows and counts that the rest of a file is not read, because the file has this many faults.
     pub fn add_cut(&mut self, alloc: Global, name: &str, faults: u64) -> Result<(), AllocError> {
         self.totals.add_fault();
         let why = format!(in alloc; "{faults} faults, so the rest of the file is not read")?;
         self.show_missing(alloc, name, why.as_str())
     }
 
-    /// Shows what stands behind all: lines and objects may leave it out, and one object for all may not.
+    /// Shows the end of the output: a quiet output leaves it out, unless the format is one object for all.
     pub fn end(&mut self, alloc: Global) -> Result<(), AllocError> {
         if self.is_quiet && !matches!(self.format, Format::Sarif(_)) {
             return Ok(());
@@ -133,7 +134,7 @@ impl Output {
         self.shown.push_str(shown.as_str())
     }
 
-    /// Shows what stands behind all changes.
+    /// Shows the end of a comparison's output.
     pub fn end_changes(&mut self, alloc: Global) -> Result<(), AllocError> {
         if matches!(self.format, Format::Sarif(_)) || self.totals.lacks_schema {
             return self.end(alloc);
@@ -146,7 +147,7 @@ impl Output {
         self.shown.push_str(shown.as_str())
     }
 
-    /// The exit status, the program's own: of a comparison it is 1 too where a policy is worse off.
+    /// The exit status, as the program's own. A comparison also has 1 if a policy is worse off.
     pub fn status(&self, task: Task, denies_warnings: bool) -> u8 {
         match (task, self.totals.status(denies_warnings)) {
             (Task::Comparison, 0) => u8::from(self.changes.worse > 0),

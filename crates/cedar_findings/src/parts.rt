@@ -1,8 +1,8 @@
-//! Parts of a condition, and what stands at their places in the text.
+//! Parts of a condition, and the text at their places.
 use cedar_types::base::{BinaryOp, Expr, ExprKind, Loc, Template};
 use std::alloc::{AllocError, Global};
 
-/// How many bytes a text has at most that is shown as an example.
+/// The greatest size in bytes of a text that is shown as an example.
 const MAX_SHOWN: usize = 80;
 
 /// An operator and its two operands.
@@ -13,7 +13,7 @@ pub struct Operation<'a> {
     pub right: &'a Expr,
 }
 
-/// What stands at a place, if it is one short line.
+/// The text at a place, if it is one short line.
 pub fn text_at(text: &str, place: Option<Loc>) -> Option<&str> {
     let place = place?;
     let part = text.get(place.start..place.end)?;
@@ -21,7 +21,7 @@ pub fn text_at(text: &str, place: Option<Loc>) -> Option<&str> {
     (is_plain && !part.is_empty()).then_some(part)
 }
 
-/// The operation on two operands that stands at a place, if there is one.
+/// The operation on two operands at a place, if there is one.
 pub fn operation_at(
     alloc: Global,
     policy: &Template,
@@ -41,7 +41,7 @@ pub fn operation_at(
     Ok(None)
 }
 
-/// The operation that a part is, if it is one on two operands.
+/// The operation of a part, if the part has two operands.
 pub fn operation_in(part: &Expr) -> Option<Operation<'_>> {
     match &part.kind {
         ExprKind::BinaryApp(operator, left, right) => Some(Operation {
@@ -53,7 +53,7 @@ pub fn operation_in(part: &Expr) -> Option<Operation<'_>> {
     }
 }
 
-/// The arguments of the call that stands at a place, if there is one.
+/// The arguments of the call at a place, if there is one.
 pub fn arguments_at(
     alloc: Global,
     policy: &Template,
@@ -73,7 +73,7 @@ pub fn arguments_at(
     Ok(None)
 }
 
-/// The part of a condition that has the part at a place as one of its operands, if there is one.
+/// The part of a condition that has the part at a place as an operand, if there is one.
 pub fn part_around(
     alloc: Global,
     policy: &Template,

@@ -1,22 +1,24 @@
-//! Lines and columns of bytes that are asked for in ascending order, or nearly so; or in any order, with an index.
+//! Lines and columns of bytes in a text. It is fast for bytes in ascending order, or nearly so; an index makes it fast for any
+//! order.
 use cedar_reading::Position;
+use memchr::memchr_iter;
 use std::alloc::{AllocError, Global};
 
-/// How many bytes lie between two marks of an index, or up to three more.
+/// The number of bytes between two marks of an index, or up to three more.
 const STEP: usize = 4096;
 
-/// Finds where the bytes of a text stand. Going on in the text costs what lies between. Going back starts anew, or at the mark
-/// before, where there is an index.
+/// Finds the positions of bytes in a text. Going on in the text costs the bytes between. Going back starts anew, or at the mark
+/// before if there is an index.
 #[derive(Drop)]
 pub struct Places<'a> {
     text: &'a str,
     at: usize,
     position: Position,
-    /// Where the first character at or behind each multiple of `STEP` stands, if there is an index.
+    /// The first character at or behind each multiple of `STEP`, with its position, if there is an index.
     marks: Vec<Mark>,
 }
 
-/// Where a byte stands.
+/// A byte with its position.
 #[derive(Clone, Copy)]
 struct Mark {
     at: usize,
@@ -24,7 +26,7 @@ struct Mark {
 }
 
 impl<'a> Places<'a> {
-    /// At the beginning of this text.
+    /// A finder at the beginning of this text.
     pub fn new(alloc: Global, text: &'a str) -> Places<'a> {
         Places {
             text,
@@ -48,7 +50,7 @@ impl<'a> Places<'a> {
         Ok(())
     }
 
-    /// Where this byte stands. A line ends with `\n`, and a column counts characters, a tab as one.
+    /// The position of a byte. A line ends with `\n`, and a column counts characters, a tab as one.
     pub fn position(&mut self, byte: usize) -> Position {
         let mark = self.mark_before(byte);
         if byte < self.at || self.at < mark.at {
@@ -61,7 +63,7 @@ impl<'a> Places<'a> {
         self.position
     }
 
-    /// The last mark up to this byte: the beginning of the text where there is none.
+    /// The last mark up to this byte: the beginning of the text if there is none.
     fn mark_before(&self, byte: usize) -> Mark {
         let number = byte / STEP;
         for number in [number, number.saturating_sub(1)] {
@@ -77,25 +79,34 @@ impl<'a> Places<'a> {
     }
 }
 
-/// Where a text begins.
+/// The position where a text begins.
 const BEGINNING: Position = Position { line: 1, column: 1 };
 
-/// The position behind this text, which begins at that one.
+/// The position behind this text, which begins at `start`.
 pub fn position_behind(start: Position, text: &str) -> Position {
+    let bytes = text.as_bytes();
     let mut position = start;
-    for byte in text.bytes() {
-        if byte == b'\n' {
-            position.line = position.line.saturating_add(1);
-            position.column = 1;
-        } else if is_first_of_character(byte) {
-            position.column = position.column.saturating_add(1);
-        }
+    let mut begun = 0usize;
+    for end in memchr_iter(b'\n', bytes) {
+        position.line = position.line.saturating_add(1);
+        position.column = 1;
+        begun = end.saturating_add(1);
     }
+    let last = bytes.get(begun..).unwrap_or(&[]);
+    position.column = position.column.saturating_add(characters(last));
     position
 }
 
+/// How many characters these bytes have.
+fn characters(bytes: &[u8]) -> usize {
+    bytes
+        .iter()
+        .filter(|byte| is_first_of_character(**byte))
+        .count()
+}
+
 /// Whether a byte of UTF-8 is the first of its character: the others are 0x80 to 0xbf.
-fn is_first_of_character(byte: u8) -> bool {
+pub(crate) fn is_first_of_character(byte: u8) -> bool {
     byte & 0xc0 != 0x80
 }
 

@@ -1,4 +1,4 @@
-//! What is found in a file, in the format that is asked for.
+//! Findings in a file, in the format that the caller asks for.
 use crate::codes::Code;
 use crate::data_findings::DataVerdict;
 use crate::faults::TextFault;
@@ -10,10 +10,10 @@ use crate::writers::{Entry, FindingsWriter, Place};
 use cedar_types::base::{Loc, Template};
 use std::alloc::{AllocError, Global};
 
-/// How many bytes a line has room for before it grows.
+/// The initial room of a line, in bytes.
 const LINE: usize = 128;
 
-/// Shows what is found in a file.
+/// A report of the findings in a file.
 #[derive(Drop)]
 pub struct Report<'a> {
     format: Format,
@@ -22,7 +22,7 @@ pub struct Report<'a> {
 }
 
 impl<'a> Report<'a> {
-    /// For this file, in this format.
+    /// A report on this file, in this format.
     pub fn new(alloc: Global, format: Format, source: Source<'a>) -> Report<'a> {
         Report {
             format,
@@ -31,12 +31,12 @@ impl<'a> Report<'a> {
         }
     }
 
-    /// Makes ready for findings that do not come in the order of the text, as those of links do.
+    /// Prepares for findings that are not in the order of the text, for example those of links.
     pub fn index_places(&mut self) -> Result<(), AllocError> {
         self.places.index()
     }
 
-    /// The format, which has taken note of what was written.
+    /// The format, with the state of its writer.
     pub fn format(&self) -> Format {
         self.format
     }
@@ -49,7 +49,8 @@ impl<'a> Report<'a> {
         }
     }
 
-    /// How a policy is shown, and what is found in it: the first findings in the order of their places, and how many more there are.
+    /// The text that shows a policy and its findings: the first ones in the order of their places, and the number of the
+    /// others.
     pub fn policy_shown(
         &mut self,
         alloc: Global,
@@ -76,7 +77,7 @@ impl<'a> Report<'a> {
         Ok(shown)
     }
 
-    /// How the mistakes in data are shown: as a fault what is no data.
+    /// The text that shows the mistakes in data. A text that is no data is shown as a fault.
     pub fn data_shown(
         &mut self,
         alloc: Global,
@@ -94,7 +95,7 @@ impl<'a> Report<'a> {
         Ok(shown)
     }
 
-    /// How a fault of the text is shown.
+    /// The text that shows a fault.
     pub fn fault_shown(&mut self, alloc: Global, fault: &TextFault) -> Result<String, AllocError> {
         let mut shown = String::new(alloc);
         let place = self.place(fault.place);
@@ -103,13 +104,13 @@ impl<'a> Report<'a> {
         Ok(shown)
     }
 
-    /// How it is shown that the file, or the rest of it, cannot be had.
+    /// The text that shows that the file, or the rest of it, cannot be read.
     pub fn missing_shown(&mut self, alloc: Global, why: &str) -> Result<String, AllocError> {
         render_missing(alloc, &mut self.format, self.source.name, why)
     }
 }
 
-/// The errors and warnings of a policy in the order of their places, errors first where one place has both.
+/// The errors and warnings of a policy in the order of their places, errors first if one place has both.
 fn in_order(alloc: Global, verdict: &Verdict) -> Result<Vec<(Severity, &Finding)>, AllocError> {
     let mut all = Vec::new(alloc);
     for finding in &verdict.errors {
@@ -127,7 +128,7 @@ fn loc_of(policy: &Template) -> Loc {
     policy.loc.unwrap_or(Loc { start: 0, end: 0 })
 }
 
-/// How a fault of a file is shown.
+/// The text that shows a fault of a file.
 pub fn render_fault(
     alloc: Global,
     format: &mut Format,
@@ -140,7 +141,7 @@ pub fn render_fault(
     Ok(shown)
 }
 
-/// How it is shown that a file cannot be had.
+/// The text that shows that a file cannot be read.
 pub fn render_missing(
     alloc: Global,
     format: &mut Format,

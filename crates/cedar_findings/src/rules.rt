@@ -1,7 +1,7 @@
-//! The kinds of findings as the rules of SARIF describe them: what each means, at length, and what helps.
+//! Kinds of findings as the rules of SARIF describe them: the meaning of each, at length, and its remedy.
 use crate::codes::Code;
 
-/// When a kind of finding comes, at length.
+/// The condition for a kind of finding, at length.
 pub fn description(code: Code) -> &'static str {
     match code {
         Code::UnknownType => "The policy names an entity type that the schema does not declare.",
@@ -91,7 +91,7 @@ pub fn description(code: Code) -> &'static str {
     }
 }
 
-/// What to do about a kind of finding.
+/// The remedy for a kind of finding.
 pub fn help(code: Code) -> &'static str {
     match code {
         Code::UnknownType => "Correct the name of the type, or declare it in the schema.",
@@ -130,5 +130,42 @@ pub fn help(code: Code) -> &'static str {
         Code::Rest => "Correct the findings that are shown, and validate again.",
         Code::Fault => "Correct the text at this place.",
         Code::File => "See whether the file is there, may be read, and is a text in UTF-8.",
+    }
+}
+
+/// The page of Cedar's documentation about a kind of finding, as an absolute address.
+pub fn page(code: Code) -> &'static str {
+    match code {
+        // the functions and the texts that they read are listed with the operators
+        Code::UnknownFunction | Code::ArgumentCount | Code::BadArgument => {
+            "https://docs.cedarpolicy.com/policies/syntax-operators.html"
+        }
+        Code::Fault | Code::File => "https://docs.cedarpolicy.com/policies/syntax-grammar.html",
+        Code::DataType
+        | Code::DataMissing
+        | Code::DataUndeclared
+        | Code::DataParents
+        | Code::DataRequest => "https://docs.cedarpolicy.com/auth/entities-syntax.html",
+        Code::UnknownType
+        | Code::UnknownAction
+        | Code::UnknownId
+        | Code::UnexpectedType
+        | Code::IncompatibleTypes
+        | Code::UnknownAttribute
+        | Code::UnguardedAttribute
+        | Code::UnguardedTag
+        | Code::NoTags
+        | Code::EmptySet
+        | Code::ComputedArgument
+        | Code::NoRule
+        | Code::Level
+        | Code::LiteralTarget
+        | Code::Unchecked
+        | Code::SameId
+        | Code::Impossible
+        | Code::NoAction
+        | Code::Direction
+        | Code::LookAlike
+        | Code::Rest => "https://docs.cedarpolicy.com/policies/validation.html",
     }
 }

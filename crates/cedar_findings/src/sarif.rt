@@ -1,16 +1,16 @@
-//! The same as SARIF 2.1.0, one object of JSON for all: what code hosts show beside the lines.
+//! Findings as SARIF 2.1.0, one object of JSON for all: code hosts show it beside the lines.
 use crate::codes::{CODES, Code};
 use crate::data_findings::DataFinding;
 use crate::findings::{Finding, Severity};
 use crate::json::JsonWriter;
 use crate::objects;
-use crate::rules::{description, help};
+use crate::rules::{description, help, page};
 use crate::totals::Totals;
 use crate::writers::{Entry, FindingsWriter, Place};
 use cedar_reading::Position;
 use std::alloc::AllocError;
 
-/// Where the form of SARIF is written down.
+/// The address of SARIF's schema.
 const SCHEMA: &str = "https://json.schemastore.org/sarif-2.1.0.json";
 
 /// Writes one object of SARIF for all.
@@ -27,6 +27,7 @@ impl FindingsWriter for Sarif {
     fn add(&mut self, out: &mut String, entry: Entry<'_>) -> Result<(), AllocError> {
         let json = &mut self.json;
         match entry {
+            // a result of SARIF is a finding, so a policy itself has none
             Entry::Policy(_, _, _) => return Ok(()),
             Entry::Finding(place, id, severity, finding) => {
                 begin_result(json, out, finding.code, severity)?;
@@ -63,7 +64,7 @@ impl FindingsWriter for Sarif {
 }
 
 impl Sarif {
-    /// Where nothing is written yet.
+    /// A writer that has written nothing yet.
     pub fn new() -> Sarif {
         Sarif {
             json: JsonWriter::new(),
@@ -71,7 +72,7 @@ impl Sarif {
     }
 }
 
-/// Adds what stands before the results.
+/// Adds the part before the results.
 fn add_beginning(json: &mut JsonWriter, out: &mut String) -> Result<(), AllocError> {
     json.begin_object(out)?;
     json.text_at(out, "$schema", SCHEMA)?;
@@ -100,13 +101,14 @@ fn add_beginning(json: &mut JsonWriter, out: &mut String) -> Result<(), AllocErr
     json.begin_list(out)
 }
 
-/// Adds a kind of finding. It has no `helpUri`, because SARIF wants an absolute address there and the documentation has none.
+/// Adds a kind of finding. Its `helpUri` leads to Cedar's documentation, because SARIF wants an absolute address there.
 fn add_rule(json: &mut JsonWriter, out: &mut String, code: Code) -> Result<(), AllocError> {
     json.begin_object(out)?;
     json.text_at(out, "id", code.text())?;
     add_message(json, out, "shortDescription", code.meaning())?;
     add_message(json, out, "fullDescription", description(code))?;
     add_message(json, out, "help", help(code))?;
+    json.text_at(out, "helpUri", page(code))?;
     json.end_object(out)
 }
 
@@ -140,7 +142,7 @@ fn begin_result(
     json.begin_text(out)
 }
 
-/// Adds what is found in the policy of this id, with what may help, and where it is so.
+/// Adds a finding in the policy of this id, with its hint and its environments.
 fn add_finding(
     json: &JsonWriter,
     out: &mut String,
@@ -161,7 +163,7 @@ fn add_finding(
     Ok(())
 }
 
-/// Adds how many more findings the policy of this id has.
+/// Adds the number of further findings in the policy of this id.
 fn add_rest(json: &JsonWriter, out: &mut String, id: &str, count: usize) -> Result<(), AllocError> {
     add_part(json, out, "policy `", id)?;
     json.text_part(out, "`: ")?;
@@ -169,7 +171,7 @@ fn add_rest(json: &JsonWriter, out: &mut String, id: &str, count: usize) -> Resu
     json.text_part(out, " more findings")
 }
 
-/// Adds a mistake in data, with what may help.
+/// Adds a mistake in data, with its hint.
 fn add_data(json: &JsonWriter, out: &mut String, finding: &DataFinding) -> Result<(), AllocError> {
     json.text_part(out, finding.text.as_str())?;
     if !finding.hint.is_empty() {
@@ -207,7 +209,7 @@ fn add_file(json: &mut JsonWriter, out: &mut String, file: &str) -> Result<(), A
     json.end_object(out)
 }
 
-/// Ends the message, and begins its place with a file and where in it that is.
+/// Ends the message, and begins its place with a file and a region of it.
 fn add_place(json: &mut JsonWriter, out: &mut String, place: Place<'_>) -> Result<(), AllocError> {
     add_file(json, out, place.source.name)?;
     json.key(out, "region")?;
@@ -229,7 +231,8 @@ fn end_result(json: &mut JsonWriter, out: &mut String) -> Result<(), AllocError>
     json.end_object(out)
 }
 
-/// Adds the name of a file as a reference: what is no letter, digit or one of `-._~/` stands as `%` with its number.
+/// Adds the name of a file as a reference: a byte that is no letter, no digit and none of `-._~/` is written as `%` with its
+/// number.
 fn add_reference(json: &JsonWriter, out: &mut String, file: &str) -> Result<(), AllocError> {
     if file.starts_with('/') {
         json.text_part(out, "file://")?;
@@ -254,7 +257,7 @@ fn digit(number: u8) -> char {
     }
 }
 
-/// Adds what stands behind the results: the counts of all, and whether all was read.
+/// Adds the part behind the results: the counts of all, and whether all was read.
 fn add_end(json: &mut JsonWriter, out: &mut String, totals: &Totals) -> Result<(), AllocError> {
     json.end_list(out)?;
     json.begin_line(out)?;

@@ -1,19 +1,19 @@
-//! The texts of a schema in several files, which are read as one.
+//! Texts of a schema in several files, which are read as one.
 use crate::faults::TextFault;
 use cedar_types::base::Loc;
 use std::alloc::{AllocError, Global};
 
-/// What stands between two texts: it declares nothing, and is a fault inside of a declaration, a text in quotes or a namespace.
+/// The text between two files: it declares nothing, and is a fault inside of a declaration, a text in quotes or a namespace.
 const BETWEEN: &str = "\n@between(\"\\\"\") namespace between { }\n";
 
-/// What is said of a text in which a declaration or a namespace does not end.
+/// The fault of a text in which a declaration or a namespace does not end.
 const OPEN: &str = "a declaration does not end in the file that it begins in";
 
 /// The texts of some files, one behind another.
 #[derive(Drop)]
 pub struct SchemaTexts {
     text: String,
-    /// Where the text of each file stands.
+    /// The place of each file's text.
     places: Vec<Loc>,
 }
 
@@ -51,7 +51,7 @@ impl SchemaTexts {
         }
     }
 
-    /// The number of the file in which a fault of all texts stands, and the fault as one of that file.
+    /// The number of the file with a fault of all texts, and the fault as one of that file.
     pub fn own_fault(
         &self,
         alloc: Global,
@@ -66,6 +66,7 @@ impl SchemaTexts {
             }
         }
         let is_last = number.saturating_add(1) == self.places.len();
+        // a fault behind the end of a file is one of the text between two files
         if fault.place.start >= own.end && !is_last {
             return Ok((number, open_fault(alloc, own)?));
         }

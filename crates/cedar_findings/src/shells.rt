@@ -1,4 +1,4 @@
-//! The shells in which the words of the program can be completed.
+//! Shells in which the words of the program can be completed.
 
 /// A shell.
 #[derive(Clone, Copy, PartialEq, Eq, Debug)]

@@ -1,4 +1,4 @@
-//! The texts of files.
+//! Texts of files.
 use crate::faults::{TextFault, push_hint};
 use cedar_reading::MAX_LENGTH;
 use cedar_types::base::Loc;
@@ -7,7 +7,7 @@ use std::io::Read;
 use std::rt::Files;
 use std::{fs, io, str};
 
-/// How many bytes of a file are read at most: one more than a text may have, so that a longer one is seen to be so.
+/// The number of bytes of a file that are read: one more than a text may have, so that a longer one is seen to be too long.
 const MOST_READ: u64 = (1 << 26) + 1;
 
 /// A text that was read, and the name of its file.
@@ -17,15 +17,15 @@ pub struct Source<'a> {
     pub text: &'a str,
 }
 
-/// What a file has.
+/// The content of a file.
 #[derive(Drop)]
 pub enum Content {
     Text(String),
-    /// It is no text, or too long: what stands before the first byte that is none, and the fault there.
+    /// No text, or one that is too long: the text before the first bad byte, and the fault there.
     Broken(String, TextFault),
 }
 
-/// What the file of this name has, or standard input at `-`.
+/// The content of the file of this name, or of standard input at `-`.
 pub fn read<R: Files + AllocGlobal + Input>(rt: &R, name: &str) -> io::Result<Content> {
     let bytes = read_bytes(rt, name)?;
     Ok(content_of(rt.alloc(), bytes.as_slice())?)
@@ -41,7 +41,7 @@ fn read_bytes<R: Files + AllocGlobal + Input>(rt: &R, name: &str) -> io::Result<
     Ok(bytes)
 }
 
-/// What these bytes say in UTF-8. A byte order mark at the beginning is no part of the text.
+/// The content of these bytes in UTF-8. A byte order mark at the beginning is no part of the text.
 pub fn content_of(alloc: Global, bytes: &[u8]) -> Result<Content, AllocError> {
     if bytes.len() > MAX_LENGTH {
         return Ok(Content::Broken(String::new(alloc), too_long(alloc)?));
@@ -59,7 +59,7 @@ pub fn content_of(alloc: Global, bytes: &[u8]) -> Result<Content, AllocError> {
     Ok(Content::Broken(front, fault))
 }
 
-/// What is wrong with a file that is too long.
+/// The fault of a file that is too long.
 fn too_long(alloc: Global) -> Result<TextFault, AllocError> {
     Ok(TextFault {
         place: Loc { start: 0, end: 0 },
@@ -67,7 +67,7 @@ fn too_long(alloc: Global) -> Result<TextFault, AllocError> {
     })
 }
 
-/// So many bytes at the beginning, which are a text.
+/// The first bytes, which are a text.
 fn front_of(bytes: &[u8], size: usize) -> &str {
     match str::from_utf8(bytes.get(..size).unwrap_or(&[])) {
         Ok(front) => front,
@@ -79,7 +79,7 @@ fn without_mark(text: &str) -> &str {
     text.strip_prefix('\u{feff}').unwrap_or(text)
 }
 
-/// What is wrong at this byte, which is no text.
+/// The fault at this byte, which is no text.
 fn broken_text(alloc: Global, bytes: &[u8], at: usize) -> Result<String, AllocError> {
     let byte = bytes.get(at).copied().unwrap_or(0);
     let mut text = format!(in alloc;

@@ -1,6 +1,6 @@
-//! The syntaxes that schemas and policies are written in.
+//! Syntaxes of schemas and policies.
 
-/// In which syntax a text is written.
+/// The syntax of a text.
 #[derive(Clone, Copy, PartialEq, Eq, Debug)]
 pub enum Syntax {
     /// Cedar's own.
@@ -28,7 +28,8 @@ impl Syntax {
         }
     }
 
-    /// The syntax of a text. JSON begins with a brace or a bracket, perhaps behind blanks, and nothing of Cedar's own syntax does.
+    /// The syntax of a text. JSON begins with a brace or a bracket, perhaps behind blanks, and no text in Cedar's own syntax
+    /// does.
     pub fn of(text: &str) -> Syntax {
         if text.trim_start().starts_with(['{', '[']) {
             Syntax::Json

@@ -1,9 +1,9 @@
-//! Counts of what was found.
+//! Counts of findings.
 use crate::codes::Code;
 use crate::data_findings::DataVerdict;
 use crate::findings::{Requirement, Verdict};
 
-/// How many policies were read, accepted and refused, how many warnings and faults there are, and what all policies need together
+/// The number of policies that were read, accepted and refused, of warnings and of faults, and the requirement of all policies
 /// whose level is known.
 #[derive(Clone, Copy, Default)]
 pub struct Totals {
@@ -14,11 +14,11 @@ pub struct Totals {
     pub faults: u64,
     pub requirement: Requirement,
     pub data: DataTally,
-    /// Whether there is no schema, so that nothing was validated by it.
+    /// Whether there is no schema, so that nothing was validated by one.
     pub lacks_schema: bool,
 }
 
-/// Whether data is checked, and whether some of it is refused; how many entities were read, and how many mistakes data has.
+/// Whether data is checked, and whether some is refused; the number of entities that were read, and of mistakes in data.
 #[derive(Clone, Copy, Default)]
 pub struct DataTally {
     pub is_asked: bool,
@@ -28,12 +28,12 @@ pub struct DataTally {
 }
 
 impl DataTally {
-    /// Counts so many entities more.
+    /// Counts these entities too.
     pub fn add_entities(&mut self, count: u64) {
         self.entities = self.entities.saturating_add(count);
     }
 
-    /// Notes that data is not as the schema says.
+    /// Notes that data does not conform to the schema.
     pub fn refuse(&mut self) {
         self.is_refused = true;
     }
@@ -57,12 +57,12 @@ impl Totals {
         self.requirement = self.requirement.join(verdict.requirement);
     }
 
-    /// Counts so many policies that were read, and not validated.
+    /// Counts policies that were read, and not validated.
     pub fn add_read(&mut self, count: u64) {
         self.policies = self.policies.saturating_add(count);
     }
 
-    /// Counts data, and each of its mistakes: as a fault what is no data.
+    /// Counts data, and each of its mistakes. A text that is no data counts as a fault.
     pub fn add_data(&mut self, verdict: &DataVerdict) {
         self.data.add_entities(verdict.entities as u64);
         if !verdict.is_accepted {
@@ -82,13 +82,13 @@ impl Totals {
         self.faults = self.faults.saturating_add(1);
     }
 
-    /// Counts what the schema lacks as a fault.
+    /// Counts the missing schema as a fault.
     pub fn add_missing_schema(&mut self) {
         self.lacks_schema = true;
         self.add_fault();
     }
 
-    /// The counts that are always said, by their names.
+    /// The counts that are always shown, with their names.
     pub fn counts(&self) -> [(&'static str, u64); 5] {
         [
             ("policies", self.policies),
@@ -99,8 +99,8 @@ impl Totals {
         ]
     }
 
-    /// The exit status: 2 where there is a fault, else 1 where a policy or data is refused, or where there is a warning and
-    /// warnings are denied, else 0.
+    /// The exit status: 2 if there is a fault, else 1 if a policy or data is refused, or if there is a warning and warnings are
+    /// denied, else 0.
     pub fn status(&self, denies_warnings: bool) -> u8 {
         if self.faults > 0 {
             2

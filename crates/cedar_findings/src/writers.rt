@@ -1,4 +1,4 @@
-//! What a format has to write: what stands before all, each thing that is found, and what stands behind all.
+//! Writers of findings: a format writes its beginning, each entry, and its end.
 use crate::data_findings::DataFinding;
 use crate::escapes::Shown;
 use crate::findings::{Finding, Severity, Verdict};
@@ -15,12 +15,12 @@ use std::fmt;
 pub struct Place<'a> {
     pub source: Source<'a>,
     pub loc: Loc,
-    /// Where it begins.
+    /// The position of its beginning.
     pub at: Position,
 }
 
 impl Place<'_> {
-    /// The position right behind it, which costs a reading of what it covers.
+    /// The position right behind the place, which takes a reading of the text that it covers.
     pub fn end(&self) -> Position {
         let Loc { start, end } = self.loc;
         position_behind(self.at, self.source.text.get(start..end).unwrap_or(""))
@@ -35,33 +35,33 @@ impl fmt::Display for Place<'_> {
     }
 }
 
-/// What is found.
+/// An entry of the output.
 #[derive(Clone, Copy)]
 pub enum Entry<'a> {
-    /// A policy of this id, and what is said of it as a whole. Its findings come next.
+    /// A policy of this id, with its verdict. Its findings come next.
     Policy(Place<'a>, &'a str, &'a Verdict),
     /// A finding in the policy of this id.
     Finding(Place<'a>, &'a str, Severity, &'a Finding),
-    /// How many more findings the policy of this id has than are shown.
+    /// The number of findings in the policy of this id that are not shown.
     Rest(Place<'a>, &'a str, usize),
     /// A mistake in data.
     Data(Place<'a>, &'a DataFinding),
     /// A fault of a text, in words.
     Fault(Place<'a>, &'a str),
-    /// A file that cannot be had, and why.
+    /// A file that cannot be read, and the reason.
     Missing(&'a str, &'a str),
 }
 
-/// Writes findings in a format. It begins once, and ends once behind all that it adds.
+/// A writer of findings in a format. You must begin it once, and end it once behind all entries.
 pub trait FindingsWriter {
-    /// Adds what stands before all: nothing, where a format does not say more.
+    /// Adds the beginning of the output: nothing, if a format has none.
     fn begin(&mut self, _: &mut String) -> Result<(), AllocError> {
         Ok(())
     }
 
-    /// Adds what is found.
+    /// Adds an entry.
     fn add(&mut self, out: &mut String, entry: Entry<'_>) -> Result<(), AllocError>;
 
-    /// Adds what stands behind all, with the counts of all.
+    /// Adds the end of the output, with the counts of all.
     fn end(&mut self, out: &mut String, totals: &Totals) -> Result<(), AllocError>;
 }

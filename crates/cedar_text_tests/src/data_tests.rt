@@ -1,4 +1,4 @@
-// Which mistakes texts of entities and of requests have, and where. Each subject has a module.
+// Mistakes of texts of entities and of requests, with their places. Each subject has a module.
 mod answers;
 mod closures;
 mod entities;

@@ -1,4 +1,4 @@
-// What the arguments of the program mean, which texts have which faults, and how findings are shown. Each subject has a module.
+// Arguments of the program, faults of texts, and shown findings. Each subject has a module.
 mod arguments;
 mod cases;
 mod effects;

@@ -1,4 +1,4 @@
-// What surrounds the parts of texts in tables of cases.
+// Frames of the texts in tables of cases.
 
-/// What stands before a part of a text, and what behind it.
+/// The text before a part, and the text behind it.
 pub type Frame<'a> = (&'a str, &'a str);

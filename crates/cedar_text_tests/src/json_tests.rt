@@ -1,4 +1,4 @@
-// Which tree a text of JSON gives, or which fault and where. Each subject has a module.
+// Trees of texts of JSON, or their faults with their places. Each subject has a module.
 mod cases;
 mod cedar_forms;
 mod outlines;

@@ -1,4 +1,4 @@
-//! Which trees, data, findings and verdicts texts have, or which faults and where. The tests stand apart, since a crate with tests is
+//! Which trees, data and findings texts have, or which faults and where. The tests stand apart, because a crate with tests is
 //! proved twice.
 #![tactic(auto)]
 
@@ -12,5 +12,3 @@ mod frames;
 mod json_tests;
 #[cfg(test)]
 mod reading_tests;
-#[cfg(test)]
-mod verdicts_tests;

@@ -1,4 +1,4 @@
-// What is read of policies that have a fault, and of schemas. Each subject has a module.
+// Readings of policies with faults, and of schemas. Each subject has a module.
 mod faulty_policies;
 mod schemas_once;
 mod shown;

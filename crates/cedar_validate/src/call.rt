@@ -1,4 +1,4 @@
-// What the program does with files, over any files and any writers.
+// Tasks of the program, over any files and any writers.
 use crate::progress::Progress;
 use cedar_findings::arguments::{Arguments, IdScope, Task};
 use cedar_findings::outputs::Output;
@@ -16,7 +16,7 @@ use std::io;
 use std::io::Write;
 use std::rt::Files;
 
-/// A call of the program: where its files are, what it shows, and where that is written.
+/// A call of the program: the access to its files, the output, and the writers.
 #[derive(Drop)]
 pub struct Call<'a, R, O, T> {
     pub rt: &'a R,
@@ -27,7 +27,7 @@ pub struct Call<'a, R, O, T> {
 }
 
 impl<R: Files + AllocGlobal + Input, O: Write, T: Write> Call<'_, R, O, T> {
-    /// Does what is asked, and answers the exit status.
+    /// Performs the task of the arguments, and answers the exit status.
     pub fn perform(&mut self, arguments: &Arguments) -> io::Result<u8> {
         self.output.is_quiet = arguments.is_quiet;
         self.output.begin(self.rt.alloc(), arguments.format)?;
@@ -36,7 +36,7 @@ impl<R: Files + AllocGlobal + Input, O: Write, T: Write> Call<'_, R, O, T> {
             Task::Comparison => self.compare(arguments),
             Task::Parsing => self.parse(arguments),
         };
-        // also where the task failed behind what is shown
+        // written even if the task failed, because its output so far holds
         self.write_shown()?;
         done?;
         let own = self
@@ -45,7 +45,7 @@ impl<R: Files + AllocGlobal + Input, O: Write, T: Write> Call<'_, R, O, T> {
         Ok(arguments.statuses.of(own))
     }
 
-    /// Writes what is shown.
+    /// Writes the output so far.
     pub fn write_shown(&mut self) -> io::Result<()> {
         self.out.write_all(self.output.shown().as_bytes())?;
         self.output.clear();
@@ -104,7 +104,7 @@ impl<R: Files + AllocGlobal + Input, O: Write, T: Write> Call<'_, R, O, T> {
         Ok(policies.end(alloc, &mut self.output)?)
     }
 
-    /// Validates the policies of all files by both schemas, and shows what changed.
+    /// Validates the policies of all files by both schemas, and shows the changes.
     fn compare(&mut self, arguments: &Arguments) -> io::Result<()> {
         let syntax = arguments.schema_syntax;
         let old = self.read_schema(arguments.old_schemas.as_slice(), syntax)?;
@@ -127,7 +127,7 @@ impl<R: Files + AllocGlobal + Input, O: Write, T: Write> Call<'_, R, O, T> {
         Ok(self.output.end_changes(self.rt.alloc())?)
     }
 
-    /// Validates the policies of a file by both schemas, and shows what changed.
+    /// Validates the policies of a file by both schemas, and shows the changes.
     fn compare_file(
         &mut self,
         settings: &BothSettings<'_>,
@@ -153,7 +153,7 @@ impl<R: Files + AllocGlobal + Input, O: Write, T: Write> Call<'_, R, O, T> {
         Ok(policies.end(alloc, &mut self.output)?)
     }
 
-    /// Reads the schema, if there is one, and all policies, and shows which faults they have.
+    /// Reads the schema, if there is one, and all policies, and shows their faults.
     fn parse(&mut self, arguments: &Arguments) -> io::Result<()> {
         let schemas = arguments.schemas.as_slice();
         let syntax = arguments.schema_syntax;
@@ -172,7 +172,7 @@ impl<R: Files + AllocGlobal + Input, O: Write, T: Write> Call<'_, R, O, T> {
     }
 }
 
-/// What these arguments ask policies to be judged by.
+/// The settings by which these arguments ask to judge policies.
 fn settings_of<'a>(arguments: &Arguments, validator: &'a Validator<'a>) -> Settings<'a> {
     Settings {
         validator,

@@ -1,4 +1,4 @@
-// The texts of files, and what is read of those that are no policies.
+// Texts of files, and the schema, the links and the data in them.
 use crate::call::Call;
 use cedar_findings::sources::{Source, read};
 use cedar_findings::syntaxes::Syntax;
@@ -12,14 +12,14 @@ use std::io::Write;
 use std::rt::Files;
 
 impl<R: Files + AllocGlobal + Input, O: Write, T: Write> Call<'_, R, O, T> {
-    /// The text of a file. Where it cannot be had, why is shown, and the answer is `None`.
+    /// The text of a file. If it cannot be read, the reason is shown, and the answer is `None`.
     fn read_file(&mut self, name: &str) -> io::Result<Option<String>> {
         self.write_shown()?;
         let read = read(self.rt, name);
         Ok(self.output.text_of(self.rt.alloc(), name, read)?)
     }
 
-    /// The text of a file; one that cannot be had is counted as a fault.
+    /// The text of a file. A file that cannot be read is counted as a fault.
     pub fn read_text(&mut self, name: &str) -> io::Result<Option<String>> {
         let text = self.read_file(name)?;
         if text.is_none() {
@@ -28,7 +28,7 @@ impl<R: Files + AllocGlobal + Input, O: Write, T: Write> Call<'_, R, O, T> {
         Ok(text)
     }
 
-    /// The schema of these files. Where there is none, why is shown, and the answer is `None`.
+    /// The schema of these files. If there is none, the reason is shown, and the answer is `None`.
     pub fn read_schema(
         &mut self,
         names: &[String],
@@ -50,7 +50,7 @@ impl<R: Files + AllocGlobal + Input, O: Write, T: Write> Call<'_, R, O, T> {
         Ok(files.schema(alloc, &mut self.output)?)
     }
 
-    /// The links of a file: none where no file is named, or where it is none of links, which is shown.
+    /// The links of a file: none if no file is named, or if the file holds no links, which is shown.
     pub fn read_links(&mut self, name: &Option<String>) -> io::Result<Links> {
         let alloc = self.rt.alloc();
         if let Some(name) = name {

@@ -16,11 +16,10 @@ use cedar_types::base::ExtensionSchemas;
 use progress::Progress;
 use run::run;
 use std::env;
-use std::env::VarError;
 use std::io::{ErrorKind, IsTerminal, Write};
 use std::process::ExitCode;
 
-/// Why the program cannot begin, where it is no word of the command line.
+/// The reason why the program cannot begin, unless a word of the command line is the reason.
 const NO_MEMORY: &str = "memory was refused";
 
 fn main(rt: HostRuntime) -> ExitCode {
@@ -61,13 +60,9 @@ fn main(rt: HostRuntime) -> ExitCode {
     };
     let out = rt.stdout();
     let is_terminal = out.is_terminal();
-    // on a terminal the lines of the policies show how far the program is
+    // lines of policies on a terminal show the progress themselves
     let terminal = (err.is_terminal() && !is_terminal).then_some(rt.stderr());
-    let colours = if is_terminal && !refuses_colours(&rt) {
-        Colours::Terminal
-    } else {
-        Colours::None
-    };
+    let colours = Colours::of_output(is_terminal, env::var(&rt, "NO_COLOR"));
     let mut call = Call {
         rt: &rt,
         extensions: &extensions,
@@ -76,16 +71,6 @@ fn main(rt: HostRuntime) -> ExitCode {
         out,
     };
     ExitCode::from(run(&mut call, words.as_slice(), &mut err))
-}
-
-/// Whether the environment has a `NO_COLOR` that is not empty.
-fn refuses_colours(rt: &HostRuntime) -> bool {
-    match env::var(rt, "NO_COLOR") {
-        Ok(text) => !text.is_empty(),
-        Err(VarError::NotPresent) => false,
-        // a text that is none in UTF-8 is not empty, and without memory nothing is painted
-        Err(_) => true,
-    }
 }
 
 /// Says why the program cannot begin, and answers its status.

@@ -1,23 +1,23 @@
-// How far the program is, on a terminal.
+// Progress of the program, on a terminal.
 use std::io::Write;
 
-/// After how many policies it is shown anew.
+/// The number of policies after which progress is shown anew.
 const STEP: u64 = 50;
 
-/// Shows on a terminal how far the program is.
+/// Shows the progress of the program on a terminal.
 #[derive(Drop)]
 pub struct Progress<T> {
-    /// None where nobody looks.
+    /// The terminal; none if nobody looks.
     terminal: Option<T>,
 }
 
 impl<T: Write> Progress<T> {
-    /// On this terminal, if there is one.
+    /// The progress on this terminal, if there is one.
     pub fn new(terminal: Option<T>) -> Progress<T> {
         Progress { terminal }
     }
 
-    /// Shows from time to time how many policies were validated. A terminal that fails is no fault.
+    /// Shows from time to time the number of policies that were validated. A terminal that fails is no fault.
     pub fn show(&mut self, policies: u64) {
         if policies % STEP != 0 {
             return;
@@ -27,7 +27,7 @@ impl<T: Write> Progress<T> {
         }
     }
 
-    /// Takes away what is shown.
+    /// Clears the line of the progress.
     pub fn clear(&mut self) {
         if let Some(terminal) = &mut self.terminal {
             let _ = write!(terminal, "\r\x1b[K");

@@ -1,4 +1,4 @@
-// What the words of the command line ask for.
+// Requests of the command line, and their exit statuses.
 use crate::call::Call;
 use crate::version::{VERSION, build};
 use cedar_findings::arguments::{Asked, read_arguments};
@@ -9,8 +9,9 @@ use std::io;
 use std::io::Write;
 use std::rt::Files;
 
-/// Does what the words ask for, and answers the exit status: 0 where all policies are accepted, 1 where some are refused or worse
-/// off, 2 where the words are wrong, a file cannot be read or understood, or memory or a writer fails; or those of Cedar.
+/// Performs the request of these words, and answers the exit status: 0 if all policies are accepted, 1 if some are refused or
+/// worse off, 2 if the words are wrong, a file cannot be read or understood, or memory or a writer fails; or the statuses of
+/// Cedar.
 pub fn run<R: Files + AllocGlobal + Input, O: Write, E: Write, T: Write>(
     call: &mut Call<'_, R, O, T>,
     words: &[String],

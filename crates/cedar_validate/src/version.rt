@@ -1,4 +1,4 @@
-//! Which version the program is, and of which build.
+//! Version of the program, and its build.
 
 /// The version of this program, and of Cedar's validator, which it follows.
 pub const VERSION: &str = "cedar-validate 0.1.0, Cedar 4.14.1";

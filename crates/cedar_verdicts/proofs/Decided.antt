@@ -1,4 +1,4 @@
--- What is found in a policy, in the words of a verdict.
+-- Findings on a policy, in the terms of a verdict.
 use Rattle.std.proofs.Common.{◌≡◌, ◌∙◌, ℕ, ◌<◌, Bool, true, false, ◌&&◌, not, true≢false, List, map, length, Option, Some, None, refl, sym, ap, subst}
 use Rattle.std.specs.Bool.{◌==◌}
 use Rattle.cedar_types.specs.declared.base.errors.validation_errors.ValidationError.{ValidationError}
@@ -48,7 +48,7 @@ module _ {C : Type 0} (meaning : C → Refusals) (v : Validator C) (t : PlainTem
   in_partial None s accepted surveyed is = (s, surveyed, is)
   in_partial (Some n) s accepted surveyed is = (s, surveyed, is)
 
-  -- in Partial nothing is promised
+  -- Partial promises nothing of evaluation
   pub unpromised : (level : Option ℕ) (accepted : Bool) → IsPromised (by Partial) level t accepted
   unpromised level accepted = record {
     safe = λ sound. absurd (true≢false (sym sound));
@@ -73,7 +73,7 @@ module _ {C : Type 0} (meaning : C → Refusals) (v : Validator C) (t : PlainTem
       same_number : (k n : ℕ) → Some k ≡ Some n → k ≡ n
       same_number k n is = cc
 
--- what more is asked leaves the promise
+-- a further condition keeps the promise
 pub promised_still : (b : Basis) (level : Option ℕ) (t : PlainTemplate) (one other : Bool)
     → IsPromised b level t one → IsPromised b level t (one && other)
 promised_still b level t one other h = record {
@@ -81,23 +81,30 @@ promised_still b level t one other h = record {
   sliced = λ n is sound e. h.sliced n is sound (and_left _ _ e);
 }
 
--- a test that the texts of calls say values
+-- a test that the texts of calls make values
 pub all_read : (found : List ValidationError) (all : List Finding) (n : ℕ) (b : Bool)
     → map finding_of found ≡ all → n ≡ length found → b ≡ (n == 0) → b ≡ is_silent all
 all_read found all n b same counted tested = silent found n b counted tested ∙ ap is_silent same
 
--- ---- a verdict by what is found, and by whether an id is repeated
+-- ---- a verdict, by the findings and by whether an id is repeated
 
 pub twice_not : (a b : Bool) → a ≡ not b → b ≡ not a
 twice_not a true e = ap not (sym e)
 twice_not a false e = ap not (sym e)
 
--- where a policy is refused, by one or by the other, there is a cause
+-- a policy that is refused, by validation or for its id, has a cause
 pub some_cause : (accepted new repeated : Bool) (size : ℕ) → repeated ≡ not new
     → (accepted ≡ false → 0 < size) → (repeated ≡ true → 0 < size) → (accepted && new) ≡ false → 0 < size
 some_cause false new repeated size is refused shared h = refused refl
 some_cause true true repeated size is refused shared h = absurd (true≢false h)
 some_cause true false repeated size is refused shared h = shared is
+
+-- and where it is accepted by both, none
+pub no_cause : (accepted new repeated : Bool) (size : ℕ) → new ≡ not repeated
+    → (accepted ≡ true → repeated ≡ false → size ≡ 0) → (accepted && new) ≡ true → size ≡ 0
+no_cause true new false size is none h = none refl refl
+no_cause true new true size is none h = absurd (true≢false (sym h ∙ is))
+no_cause false new repeated size is none h = absurd (true≢false (sym h))
 
 -- ---- what is found without a level
 
@@ -110,7 +117,7 @@ with_silent : (l k r u : Bool) → k ≡ true → ((l && r) && u) ≡ true → (
 with_silent true k r u silent h = (λ i. (silent i && r) && u) ∙ h
 with_silent false k r u silent h = absurd (true≢false (sym h))
 
--- a policy passes without a level where it is accepted at one, or where that is looked at
+-- a policy passes without a level if it is accepted at one, or if it is judged again without one
 pub passes_without : (b : Basis) (level : Option ℕ) (t : PlainTemplate) (s : Survey) (accepted : Bool) → IsSurveyOf b t s
     → accepted ≡ finds_nothing b level t s → (accepted ≡ false → PassesWithoutLevel b t) → PassesWithoutLevel b t
 passes_without b level t s true surveyed is h = (

@@ -1,4 +1,4 @@
--- Whether an id is the key of a map, and one more key.
+-- Ids among the keys of a map, and with one more key.
 use Rattle.std.proofs.Common.{Global, ◌≡◌, ◌∙◌, ℕ, Bool, true, false, ◌||◌, List, [], ◌∷◌, map, Option, Some, None, is_some, cond, refl, sym, ap}
 use Rattle.std.specs.BTreeMap.{insert_entry, is_at}
 use Rattle.std.specs.Cmp.Lexicographic.{texts_ties}
@@ -18,7 +18,7 @@ same_texts : (a b : RcStr Global) → key_cmp a b ≡ Equal → text_of a ≡ te
 same_texts a b e =
     (bytes_eq-Decides (text_of a) (text_of b)).0 (texts_ties (text_of a) (text_of b) ∙ ap is_eq e)
 
--- ---- one that is there
+-- ---- a key that is there
 
 or_found : {X : Type 0} (b : Bool) (x : X) (r : Option X) → is_some (cond b (Some x) r) ≡ (b || is_some r)
 or_found true x r = refl
@@ -31,7 +31,7 @@ found a (e ∷ es) =
     or_found (is_at (key_cmp a) e.0) e.1 (lookup (is_at (key_cmp a)) es)
     ∙ (λ i. (sym (texts_ties (text_of a) (text_of e.0))) i || found a es i)
 
--- ---- one more
+-- ---- one more key
 
 absorbed : (a r : Bool) → (a || r) ≡ (a || (a || r))
 absorbed true r = refl
@@ -64,7 +64,7 @@ one_more_key k v t (e ∷ es) = along (key_cmp k e.0) refl (one_more_key k v t e
         ap (λ b. text_eq t (text_of e.0) || b) i
         ∙ swapped (text_eq t (text_of e.0)) (text_eq t (text_of k)) (list_any (text_eq t) (map text_of (keys_of es)))
 
--- a key that is there is no more
+-- a key that is there already adds none
 known_any : (t : Text) (ts : List Text) → list_any (text_eq t) ts ≡ true → (u : Text) → text_eq u t ≡ true → list_any (text_eq u) ts ≡ true
 known_any t ts h u e = ap (λ v. list_any (text_eq v) ts) ((bytes_eq-Decides u t).0 e) ∙ h
 

@@ -1,4 +1,4 @@
--- The verdicts of a set, to which one more is added.
+-- Verdicts on a set that has one policy more.
 use Rattle.std.proofs.Common.{◌≡◌, ◌∙◌, ℕ, Bool, true, false, ◌||◌, List, [], ◌∷◌, ◌++◌, map, Option, refl, sym, ap, subst}
 use Rattle.std.specs.List.{list_any}
 use Rattle.std.proofs.lemmas.List.{map_push}
@@ -16,7 +16,7 @@ swapped true false = refl
 swapped false true = refl
 swapped false false = refl
 
--- one policy more
+-- the ids of one policy more
 pub has_one_more : (ts : List PlainTemplate) (t : PlainTemplate) (id : Text)
     → (text_eq id t.id || has_policy ts id) ≡ has_policy (ts ++ t ∷ []) id
 has_one_more ts t id =
@@ -25,7 +25,7 @@ has_one_more ts t id =
     ∙ sym (list_any-append (text_eq id) ids (t.id ∷ []))
     ∙ ap (list_any (text_eq id)) (sym (map_push (λ (u : PlainTemplate). u.id) ts t))
 
--- its verdict is right, and whole by what is known of the ids
+-- the verdict on one policy more is right, and whole by the known ids
 pub with_one_more : (b : Basis) (level : Option ℕ) (ts next : List PlainTemplate) (vs new : List Verdict)
     (t : PlainTemplate) (v : Verdict) (is_repeated : Bool) → AreVerdictsOn b level ts vs
     → next ≡ ts ++ t ∷ [] → new ≡ vs ++ v ∷ [] → is_repeated ≡ has_policy ts t.id

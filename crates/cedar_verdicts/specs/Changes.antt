@@ -1,4 +1,4 @@
--- When a policy is worse off by a second verdict.
+-- Policies that are worse off by a second verdict.
 use Rattle.std.specs.Prelude.{Bool, true, false, not, ◌&&◌, ◌||◌, nat_lt}
 use Rattle.std.specs.List.{list_any}
 use Rattle.cedar_findings.specs.declared.codes.Code.{Code}
@@ -11,11 +11,11 @@ abbrev pub is_impossible_code : Code → Bool
 is_impossible_code Code.Impossible = true
 is_impossible_code _ = false
 
--- a warning says that the policy is impossible
+-- a warning calls the policy impossible
 abbrev pub has_impossible : Verdict → Bool
 has_impossible v = list_any (λ f. is_impossible_code f.code) v.warnings.items
 
--- a level is greater than another, or no number is enough any more
+-- a level is greater than another, or no level is enough any more
 abbrev pub needs_more : Requirement → Requirement → Bool
 needs_more Requirement.Unsaid r = false
 needs_more Requirement.NoLevel r = false
@@ -23,7 +23,7 @@ needs_more (Requirement.Level l) Requirement.Unsaid = false
 needs_more (Requirement.Level l) Requirement.NoLevel = true
 needs_more (Requirement.Level l) (Requirement.Level m) = nat_lt l.level m.level
 
--- a policy that was accepted is refused, or impossible where it was not, or needs more steps; one that was refused cannot be worse off
+-- a policy that was accepted is refused, newly impossible, or needs more steps; one that was refused cannot be worse off
 abbrev pub is_worse_by : Verdict → Verdict → Bool
 is_worse_by old new =
     old.is_accepted

@@ -1,10 +1,10 @@
--- A template with its slots bound.
+-- Templates with their slots bound.
 use Rattle.std.specs.Prelude.{Bool, true, false, Option, Some, None, is_none}
 use Rattle.cedar_types.specs.declared.base.names.entities.EntityUID.{EntityUID}
 use Rattle.cedar_types.specs.Names.{Text, placed_uid}
 use Rattle.cedar_types.specs.Templates.{Reference, to_entity, to_slot, Scope, any, equal, within, typed, typed_within, PlainTemplate}
 
--- the entity that a slot is bound to, if it is
+-- a reference, its slot filled with the bound entity, if there is one
 abbrev pub filled : Option EntityUID → Reference → Reference
 filled u (to_entity v) = to_entity v
 filled (Some u) to_slot = to_entity (placed_uid u)
@@ -17,7 +17,7 @@ bound u (within r) = within (filled u r)
 bound u (typed t) = typed t
 bound u (typed_within t r) = typed_within t (filled u r)
 
--- an entity is bound exactly where there is a slot
+-- an entity is bound exactly if there is a slot
 abbrev pub fits : Option EntityUID → Reference → Bool
 fits None (to_entity v) = true
 fits None to_slot = false

@@ -1,4 +1,4 @@
--- What is said of the policies of a set.
+-- Verdicts on the policies of a set.
 use Rattle.std.specs.Prelude.{ℕ, Bool, List, [], ◌∷◌, ◌++◌, map, Option}
 use Rattle.std.specs.List.{list_any}
 use Rattle.cedar_types.specs.Names.{Text, text_eq}
@@ -11,7 +11,7 @@ use Rattle.cedar_verdicts.specs.Verdicts.{IsRightVerdict, IsWholeVerdict}
 abbrev pub has_policy : List PlainTemplate → Text → Bool
 has_policy ts id = list_any (text_eq id) (map (λ t. t.id) ts)
 
--- a verdict on each policy, in their order: right, and whole, where an id is repeated if a policy before it has it
+-- a right and whole verdict on each policy, in their order; an id is repeated if a policy before it has it
 pub data AreVerdictsOn (b : Basis) (level : Option ℕ) : List PlainTemplate → List Verdict → Type 0 where
   none_yet : AreVerdictsOn b level [] []
   one_more : (t : PlainTemplate) (v : Verdict) {ts : List PlainTemplate} {vs : List Verdict}

@@ -1,4 +1,4 @@
--- What is said of a policy, and when that is right.
+-- Verdicts on a policy, and the conditions under which they are right and whole.
 use Rattle.std.specs.Prelude.{◌≡◌, ℕ, ◌<◌, Bool, true, false, ◌&&◌, not, List, [], length, Option, Some, None}
 use Rattle.cedar_types.specs.declared.base.types.ValidationMode.{ValidationMode}
 use Rattle.cedar_types.specs.declared.base.types.ValidationMode.TheVariants.{Strict, Permissive, Partial}
@@ -20,9 +20,9 @@ use Rattle.cedar_host.specs.Safety.{DoesNotGoWrong}
 use Rattle.cedar_host.specs.Slices.{NeedsSliceAlone}
 use Rattle.cedar_verdicts.specs.declared.settings.Settings.{Settings}
 
--- ---- what policies are judged by
+-- ---- the basis of judgment
 
--- the schema and the extension functions of the validator, and the mode
+-- the validator's schema and extension functions, and the mode
 abbrev pub basis_of : {C : Type 0} → (C → Refusals) → Settings C → Basis
 basis_of meaning s = basis_in meaning s.validator.now s.mode
 
@@ -32,27 +32,28 @@ is_sound Strict = true
 is_sound Permissive = true
 is_sound Partial = false
 
--- ---- what is found against a policy
+-- ---- findings against a policy
 
--- its level errors, where a level is asked for, in a mode that has levels
+-- level errors, if a level is asked for in a mode that has levels
 abbrev pub levels_against : ValidationMode → Option ℕ → Survey → List Finding
 levels_against m None s = []
 levels_against Strict (Some n) s = level_errors_of s n
 levels_against Permissive (Some n) s = level_errors_of s n
 levels_against Partial (Some n) s = []
 
--- nothing is found by its survey, its names and its levels: each check passes, and no name and no level has an error
+-- a policy's survey, names and levels have no finding: each check passes, and no name and no level has an error
 abbrev pub passes_all : Basis → Option ℕ → PlainTemplate → Survey → Bool
 passes_all b level t s =
     is_silent (levels_against b.mode level s) && (is_silent (name_findings b.mode b.schema t) && passes_of s)
 
--- nor by a look at the texts of its calls: each of these says a value
+-- a policy has no finding: none in its survey, names and levels, and none in the texts of its calls, each of which makes a
+-- value
 abbrev pub finds_nothing : Basis → Option ℕ → PlainTemplate → Survey → Bool
 finds_nothing b level t s = passes_all b level t s && is_silent (unread_in t)
 
--- ---- the level that is said
+-- ---- the required level
 
--- nothing is found against a policy if no level is asked for
+-- a policy has no finding if no level is asked for
 abbrev pub PassesWithoutLevel : Basis → PlainTemplate → Type 0
 PassesWithoutLevel b t = (s : Survey) × IsSurveyOf b t s × (finds_nothing b None t s ≡ true)
 
@@ -61,7 +62,7 @@ is_said Requirement.Unsaid = false
 is_said Requirement.NoLevel = true
 is_said (Requirement.Level l) = true
 
--- the least number of steps that is enough, if one is
+-- the least number of steps that is enough, if there is one
 abbrev pub level_said : Requirement → Option ℕ
 level_said Requirement.Unsaid = None
 level_said Requirement.NoLevel = None
@@ -69,25 +70,27 @@ level_said (Requirement.Level l) = Some l.level
 
 -- ---- a verdict
 
--- what acceptance promises: the policy does not go wrong, and needs the slice of the level alone, if one is asked for
+-- acceptance promises, in Strict and in Permissive, that the policy does not go wrong, and needs only the slice of the level,
+-- if one is asked for
 pub record IsPromised (b : Basis) (level : Option ℕ) (t : PlainTemplate) (is_accepted : Bool) : Type 0 where
   pub safe : is_sound b.mode ≡ true → is_accepted ≡ true → DoesNotGoWrong b t
   pub sliced : (n : ℕ) → level ≡ Some n → is_sound b.mode ≡ true → is_accepted ≡ true → NeedsSliceAlone b t n
 
--- a verdict says no more of a policy than is so: acceptance keeps its promise, a level that is said is the required one, and it is
--- said only where nothing is found but levels
+-- a verdict claims no more than holds: acceptance keeps its promise, a level in it is the required one, and only a policy with
+-- no findings but level errors has one
 pub record IsRightVerdict (b : Basis) (level : Option ℕ) (t : PlainTemplate) (v : Verdict) : Type 0 where
   pub promised : IsPromised b level t v.is_accepted
   pub required : is_said v.requirement ≡ true → IsRequiredLevel b t (level_said v.requirement)
   pub only : is_said v.requirement ≡ true → PassesWithoutLevel b t
 
--- and no less: a policy of which another of its set has the id before it, or has not, is accepted exactly where nothing is found
--- against it and none has
+-- a verdict claims no less than holds: a policy is accepted exactly if nothing is found against it, and no policy of its set
+-- before it has its id
 pub record IsWholeVerdict (b : Basis) (level : Option ℕ) (t : PlainTemplate) (is_repeated : Bool) (v : Verdict) : Type 0 where
   pub survey : Survey
   pub surveyed : IsSurveyOf b t survey
   pub accepted : v.is_accepted ≡ (finds_nothing b level t survey && not is_repeated)
-  -- where it is refused, an error says so
+  -- where it is refused, an error says so, and where it is accepted, none is listed
   pub refused : v.is_accepted ≡ false → 0 < length v.errors.items
+  pub clean : v.is_accepted ≡ true → length v.errors.items ≡ 0
   -- where nothing is found against it, its level is said
   pub said : finds_nothing b level t survey ≡ true → is_sound b.mode ≡ true → is_said v.requirement ≡ true

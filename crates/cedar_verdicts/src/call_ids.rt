@@ -1,4 +1,4 @@
-//! The ids of the policies of several files, of which no two may have one.
+//! Ids of the policies of several files, because no two policies of a call may have one id.
 ghost use Rattle.std.specs.Prelude.{◌≡◌, true, OnOk};
 
 use crate::causes::place_of;
@@ -17,15 +17,16 @@ pub struct CallIds {
 }
 
 impl CallIds {
-    /// None so far.
+    /// An empty collection of ids.
     pub fn new(alloc: Global) -> CallIds {
         CallIds {
             files: BTreeMap::new(alloc),
         }
     }
 
-    /// Takes note of the id of a policy of this file. Where another file has it, the policy is refused, and an error says so: no
-    /// policy is accepted that was not (clause `strict`), and the level stays (clause `level`). It fails where memory is refused.
+    /// Takes note of the id of a policy of this file. Where another file has it, the policy is refused, and an error says so: a
+    /// verdict that accepts is the one that was given (clause `strict`), and the level stays (clause `level`). It fails where memory
+    /// is refused.
     pub fn take(
         &mut self,
         alloc: Global,
@@ -34,11 +35,12 @@ impl CallIds {
         verdict: &mut Verdict,
     ) -> Result<(), AllocError>
         ensures strict { OnOk result
-            (verdict.new.is_accepted ≡ true → verdict.old.is_accepted ≡ true) }
+            (verdict.new.is_accepted ≡ true → verdict.new ≡ verdict.old) }
         ensures level { OnOk result (verdict.new.requirement ≡ verdict.old.requirement) }
     {
         let id = policy.id.text.clone()?;
         if let Some(first) = self.files.get(&id) {
+            // the set of one file has refused its own repeats already
             if first.as_str() == file {
                 return Ok(());
             }
@@ -51,7 +53,7 @@ impl CallIds {
     }
 }
 
-/// Makes a verdict one that refuses, with an error that says why.
+/// Turns a verdict into a refusal, with an error of this text.
 fn refuse(
     alloc: Global,
     policy: &Template,
@@ -59,7 +61,7 @@ fn refuse(
     verdict: &mut Verdict,
 ) -> Result<(), AllocError>
     ensures strict { OnOk result
-        (verdict.new.is_accepted ≡ true → verdict.old.is_accepted ≡ true) }
+        (verdict.new.is_accepted ≡ true → verdict.new ≡ verdict.old) }
     ensures level { OnOk result (verdict.new.requirement ≡ verdict.old.requirement) }
 {
     let place = Some(place_of(policy));

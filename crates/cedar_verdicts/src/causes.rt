@@ -1,4 +1,4 @@
-// What is found in a policy, before it is put into words.
+// Causes of the findings of a policy, before they are put into words.
 use crate::impossible::FalsePart;
 use cedar_findings::codes::Code;
 use cedar_reading::Position;
@@ -8,27 +8,27 @@ use cedar_types::base::{
 };
 use std::alloc::{AllocError, Global};
 
-/// What is found.
+/// The cause of a finding.
 #[derive(Clone, Copy)]
 pub enum Cause<'a> {
     Error(&'a ValidationError, &'a Environments),
     Warning(&'a ValidationWarning),
-    /// A policy is impossible, as this part is false.
+    /// A policy is impossible, because this part is false.
     FalsePart(&'a ValidationWarning, &'a FalsePart),
-    /// Characters because of which a policy may be read as another one: of this kind, and what is said of them.
+    /// Characters of this kind may make a policy read as another one; the text tells why.
     Marks(Code, &'static str),
-    /// It is refused without an error: why.
+    /// A policy is refused without an error; the text tells the likely reason.
     Unexplained(&'static str),
-    /// Another policy has its id, at this position of the file.
+    /// Another policy has the id, at this position of the file.
     SameId(Position),
 }
 
-/// Where a policy stands.
+/// The place of a policy.
 pub fn place_of(policy: &Template) -> Loc {
     policy.loc.unwrap_or(Loc { start: 0, end: 0 })
 }
 
-/// What is found, and where.
+/// A cause with its place.
 #[derive(Clone, Copy)]
 pub struct Found<'a> {
     pub place: Loc,
@@ -36,6 +36,7 @@ pub struct Found<'a> {
 }
 
 impl Found<'_> {
+    /// The kind of the finding.
     pub fn code(&self) -> Code {
         match self.cause {
             Cause::Error(error, _) => Code::of_error(error),
@@ -46,7 +47,8 @@ impl Found<'_> {
         }
     }
 
-    /// Whether two errors are one mistake: the same is wrong at the same place, and the types alone are others.
+    /// Whether two errors are one mistake: they stand at one place, and differ only in types. For example, `principal.age` is
+    /// one mistake if both `User` and `Robot` lack the attribute.
     pub fn is_same_mistake(&self, other: &Found<'_>) -> bool {
         match (self.cause, other.cause) {
             (Cause::Error(one, _), Cause::Error(two, _)) => {
@@ -57,7 +59,7 @@ impl Found<'_> {
     }
 }
 
-/// Whether two errors at one place differ in nothing but types.
+/// Whether two errors at one place differ only in types.
 fn is_same_but_for_types(one: &ValidationError, two: &ValidationError) -> bool {
     match (one, two) {
         (
@@ -80,7 +82,7 @@ fn is_same_but_for_types(one: &ValidationError, two: &ValidationError) -> bool {
     }
 }
 
-/// The types of an error that stands with others for one mistake, as they are shown.
+/// The types of an error that is joined with others into one mistake, as a finding shows them.
 pub fn types_shown(alloc: Global, error: &ValidationError) -> Result<String, AllocError> {
     match error {
         ValidationError::UnsafeAttributeAccess(found) => render_type(alloc, &found.accessed_type),

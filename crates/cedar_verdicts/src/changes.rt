@@ -1,4 +1,4 @@
-//! What changes for policies from one schema to another.
+//! Comparison of the verdicts on policies by an older schema and by a newer one.
 ghost use Rattle.std.specs.Prelude.{◌≡◌, IfOk};
 ghost use Rattle.cedar_verdicts.specs.Changes.{has_impossible, is_impossible_code, needs_more, is_worse_by};
 
@@ -11,8 +11,8 @@ use cedar_findings::findings::{Finding, Requirement, Severity, Verdict};
 use cedar_types::base::{ArgumentCheck, ExtensionSchemas, Template};
 use std::alloc::{AllocError, Global};
 
-/// Whether a policy is worse off by the second verdict: it was accepted, and is refused, or is impossible where it was not, or
-/// needs more steps than before. A policy that was refused cannot be worse off.
+/// Whether a policy is worse off by the second verdict: the first accepts it, and the second refuses it, newly calls it
+/// impossible, or requires more steps. A policy that was refused cannot be worse off.
 pub fn is_worse(old: &Verdict, new: &Verdict) -> bool
     ensures { result ≡ is_worse_by old.now new.now }
 {
@@ -21,7 +21,7 @@ pub fn is_worse(old: &Verdict, new: &Verdict) -> bool
     old.is_accepted & (is_refused | (is_newly_impossible | rises(old.requirement, new.requirement)))
 }
 
-/// Whether a warning says that a policy is impossible.
+/// Whether a warning calls the policy impossible.
 fn is_impossible(verdict: &Verdict) -> bool
     ensures { result ≡ has_impossible verdict.now }
 {
@@ -34,7 +34,7 @@ fn tells_impossible(finding: &Finding) -> bool
     matches!(finding.code, Code::Impossible)
 }
 
-/// Whether the second is more than the first.
+/// Whether the second requirement is more than the first.
 fn rises(old: Requirement, new: Requirement) -> bool
     ensures { result ≡ needs_more old new }
 {
@@ -45,7 +45,7 @@ fn rises(old: Requirement, new: Requirement) -> bool
     }
 }
 
-/// What changed for a policy from one verdict to the next. It fails where memory is refused.
+/// The changes for a policy from one verdict to the next. If memory is refused, the answer is an `AllocError`.
 pub fn compare<'o, 'n>(
     alloc: Global,
     old: &'o Verdict,
@@ -83,7 +83,7 @@ fn changes_between(alloc: Global, old: &Verdict, new: &Verdict) -> Result<Vec<Ch
     Ok(changes)
 }
 
-/// Whether both are said, and are not one.
+/// Whether both verdicts have a requirement, and the two differ.
 fn is_other_level(old: Requirement, new: Requirement) -> bool {
     match (old, new) {
         (Requirement::Unsaid, _) | (_, Requirement::Unsaid) => false,
@@ -93,7 +93,7 @@ fn is_other_level(old: Requirement, new: Requirement) -> bool {
     }
 }
 
-/// The findings of one verdict that another has not.
+/// The findings of one verdict that the other lacks.
 fn findings_without<'a>(
     alloc: Global,
     one: &'a Verdict,
@@ -113,7 +113,7 @@ fn findings_without<'a>(
     Ok(found)
 }
 
-/// Whether one of these findings says the same of the same place.
+/// Whether one of these findings has the kind, the words and the place of the wanted one.
 fn has_same(findings: &Vec<Finding>, wanted: &Finding) -> bool {
     for it in findings {
         let is_there = it.start == wanted.start && it.end == wanted.end;
@@ -124,25 +124,25 @@ fn has_same(findings: &Vec<Finding>, wanted: &Finding) -> bool {
     false
 }
 
-/// What two schemas say of the policies of a text, one after another.
+/// The verdicts by two schemas on the policies of a text, one policy after another.
 #[derive(Drop)]
 pub struct Comparisons<'a> {
     old: PolicyVerdicts<'a>,
     new: PolicyVerdicts<'a>,
 }
 
-/// What they say of a policy.
+/// The verdicts by both schemas on a policy.
 #[derive(Drop)]
 pub enum Compared {
-    /// This policy, and the verdicts by the older schema and by the other.
+    /// A policy, with its verdict by the older schema and by the newer one.
     Verdicts(Template, Verdict, Verdict),
     /// A policy that cannot be read.
     Fault(TextFault),
 }
 
 impl<'a> Comparisons<'a> {
-    /// Of a text of which nothing was said yet, or the fault that it has as a whole. Calls in it are of the functions of Cedar,
-    /// or of this table.
+    /// The comparison of a text's policies, none compared yet, or the fault of the whole text. Calls in the text are of Cedar's
+    /// functions, or of this table.
     pub fn new<C>(
         alloc: Global,
         functions: &ExtensionSchemas<C>,
@@ -158,17 +158,17 @@ impl<'a> Comparisons<'a> {
         }
     }
 
-    /// How often something is said at most.
+    /// An upper bound on the number of policies that are compared.
     pub fn most(&self) -> usize {
         self.new.most()
     }
 
-    /// Whether the rest of the text was not read, because it has too many faults.
+    /// Whether the rest of the text was not read, because the text has too many faults.
     pub fn is_cut(&self) -> bool {
         self.new.is_cut()
     }
 
-    /// What is said next; `None` where all is said, or the rest is not read.
+    /// The next comparison; `None` if all policies are compared, or the rest is not read.
     pub fn next_compared<C: ArgumentCheck>(
         &mut self,
         alloc: Global,
@@ -185,7 +185,8 @@ impl<'a> Comparisons<'a> {
     }
 }
 
-/// What both say of one policy, which both could read or neither.
+/// Joins both answers on one policy: a fault if either is one. Both read one text, so they disagree on that only if their
+/// tables of functions differ.
 fn joined(was: Said, is: Said) -> Compared {
     match is {
         Said::Fault(fault) => Compared::Fault(fault),

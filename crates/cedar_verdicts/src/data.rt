@@ -1,4 +1,4 @@
-//! What is wrong with entities and with a request.
+//! Verdicts on entities and on a request.
 use crate::data_hints::hint;
 use cedar_conformance::entity_faults::EntityProblem;
 use cedar_conformance::faults::Mismatch;
@@ -17,28 +17,28 @@ use cedar_reading::Position;
 use cedar_types::base::{Loc, ValidatorSchema};
 use std::alloc::{AllocError, Global};
 
-/// How many mistakes of a text are told.
+/// The number of mistakes of a text that are told.
 const MAX_FINDINGS: usize = 100;
 
-/// What a text of data is to have.
+/// The kind of data that a text must hold.
 #[derive(Clone, Copy)]
 pub enum DataKind {
     Entities,
     Request,
 }
 
-/// What is found in a text of data.
+/// The result of checking a text of data.
 #[derive(Drop)]
 struct Found {
     entities: usize,
-    /// Whether the text gives data that is as the schema says.
+    /// Whether the text holds data that conforms to the schema.
     conforms: bool,
     faults: Faults,
     texts: Vec<ExtensionText>,
 }
 
-/// What is said of a text of data by a schema. It is accepted where it gives data that is as the schema
-/// says, and each text in it that makes an extension value is read. It fails where memory is refused.
+/// The verdict on a text of data by a schema. The text is accepted if it holds data that conforms to the schema, and each text
+/// in it that makes an extension value is read. If memory is refused, the answer is an `AllocError`.
 pub fn judge_data(
     alloc: Global,
     schema: &ValidatorSchema,
@@ -51,7 +51,7 @@ pub fn judge_data(
     }
 }
 
-/// What is said of a text that is no data. It fails where it was memory that was refused.
+/// The verdict on a text that holds no data. If the cause is refused memory, the answer is an `AllocError`.
 fn no_data(alloc: Global, text: &str, error: DataError) -> Result<DataVerdict, AllocError> {
     let error = FormError::from(error);
     let TextFault { place, text } = form_fault(alloc, Written::Data, text, error)?;
@@ -97,12 +97,12 @@ fn found_in(
     }
 }
 
-/// Whether the constructor that is given a text makes a value of it.
+/// Whether the constructor makes a value of the text that it is given.
 fn is_read(text: &ExtensionText) -> bool {
     text.constructor.reads(text.text.as_str())
 }
 
-/// What is said of a text in which this is found.
+/// The verdict on a text by the result of its check.
 fn verdict_of(
     alloc: Global,
     schema: &ValidatorSchema,
@@ -133,7 +133,7 @@ fn verdict_of(
     })
 }
 
-/// That there are more mistakes, at the end of a text.
+/// The finding at the end of a text that there are more mistakes.
 fn more_than_told(alloc: Global, text: &str) -> Result<DataFinding, AllocError> {
     let end = text.len();
     Ok(DataFinding {
@@ -144,7 +144,7 @@ fn more_than_told(alloc: Global, text: &str) -> Result<DataFinding, AllocError> 
     })
 }
 
-/// A text that a constructor of extension values cannot read.
+/// The finding of a text that a constructor of extension values cannot read.
 fn unread(alloc: Global, text: &ExtensionText) -> Result<DataFinding, AllocError> {
     let function = text.constructor.name();
     let message = &text.text;

@@ -1,4 +1,4 @@
-// What may help where data names what the schema does not declare.
+// Hints for data with names that the schema does not declare.
 use cedar_conformance::entity_faults::EntityProblem;
 use cedar_conformance::faults::{Mismatch, Step, ValueKind};
 use cedar_conformance::requests::RequestFault;
@@ -57,7 +57,7 @@ fn hint_for_request(
     }
 }
 
-/// What may be meant by a value at the end of these steps from its owner.
+/// The hint for a value at the end of these steps from its owner.
 fn hint_for_value(
     alloc: Global,
     schema: &ValidatorSchema,
@@ -80,8 +80,8 @@ fn hint_for_value(
     }
 }
 
-/// The declared attribute that is nearest to one at the end of these steps from its owner. The contexts of all actions are looked
-/// at: the action is not known here.
+/// The declared attribute that is nearest to the one at the end of these steps from its owner. The contexts of all actions are
+/// searched, because the action is not known here.
 fn similar_attribute(
     alloc: Global,
     schema: &ValidatorSchema,
@@ -97,7 +97,8 @@ fn similar_attribute(
     Ok(message)
 }
 
-/// The attributes that the schema declares for the part at the end of these steps: of an entity, or of any action's context.
+/// The attributes that the schema declares for the part at the end of these steps: one record for an entity, one of each action
+/// for a context.
 fn declared_attributes<'a>(
     alloc: Global,
     schema: &'a ValidatorSchema,
@@ -183,7 +184,7 @@ fn attributes_in<'a>(ty: &'a CedarType, steps: &[Step]) -> Option<&'a Attributes
     }
 }
 
-/// The declared type that may be meant by one that is not declared.
+/// The declared type that may be meant by a type that is not declared.
 fn undeclared_type(
     alloc: Global,
     schema: &ValidatorSchema,

@@ -1,12 +1,12 @@
-// The environments of an error, as they are shown.
+// Environments of an error, as a finding shows them.
 use cedar_typechecker::survey::{Environment, Environments};
 use cedar_types::base::EntityType;
 use std::alloc::{AllocError, Global};
 
-/// How many environments are shown.
+/// The number of environments that are shown.
 const MAX_SHOWN: usize = 5;
 
-/// The environments of what does not come in all that the policy may apply in: the first few, and how many more there are.
+/// Environments of a finding that does not hold in all applicable ones: the first few, and the number of the others.
 #[derive(Drop)]
 pub struct ShownEnvironments {
     count: u64,
@@ -14,7 +14,7 @@ pub struct ShownEnvironments {
 }
 
 impl ShownEnvironments {
-    /// None.
+    /// No environments.
     pub fn new(alloc: Global) -> ShownEnvironments {
         ShownEnvironments {
             count: 0,
@@ -22,7 +22,7 @@ impl ShownEnvironments {
         }
     }
 
-    /// Adds those of an error.
+    /// Adds the environments of an error.
     pub fn add(&mut self, alloc: Global, environments: &Environments) -> Result<(), AllocError> {
         self.count = self.count.saturating_add(environments.count);
         for environment in &environments.listed {
@@ -33,7 +33,8 @@ impl ShownEnvironments {
         Ok(())
     }
 
-    /// What is shown: nothing where these are all that the policy may apply in, or none.
+    /// The texts of the environments: none if they are all that the policy may apply in, because then they tell the reader no
+    /// more than the finding.
     pub fn finish(self, alloc: Global, applicable: u64) -> Result<Vec<String>, AllocError> {
         let ShownEnvironments { count, mut shown } = self;
         if count >= applicable {
@@ -50,7 +51,7 @@ impl ShownEnvironments {
     }
 }
 
-/// The action with the types of the principal and of the resource, and those that slots are linked to.
+/// An environment's action with the types of the principal and of the resource, and the types that slots are linked to.
 fn environment_shown(alloc: Global, environment: &Environment) -> Result<String, AllocError> {
     let Some(request) = &environment.request else {
         return String::from_str(alloc, "an action that is not declared");

@@ -1,5 +1,5 @@
 // What is wrong in a policy, before it is put into words.
-ghost use Rattle.std.specs.Prelude.{◌≡◌, ◌<◌, true, false, length, is_some, IfOk, OnOk};
+ghost use Rattle.std.specs.Prelude.{◌≡◌, ◌<◌, ◌≤◌, true, false, length, is_some, IfOk, OnOk};
 
 use crate::causes::{Cause, Found, place_of};
 use cedar_host::policy_sets::Findings;
@@ -7,16 +7,16 @@ use cedar_reading::Position;
 use cedar_types::base::{Template, ValidationMode};
 use std::alloc::{AllocError, Global};
 
-/// The text of a policy that is refused without an error, where each name is the schema's.
+/// The text for a policy that is refused without an error, in a mode in which each name is the schema's.
 const NESTED: &str = "nested too deep to be checked: fewer than 400 parts may stand inside \
      each other, and a chain of `&&`, `||`, `+` or accesses nests one deeper at each step";
 
-/// The text of one where names may be others.
+/// The text for such a policy in Partial, where the schema need not declare each name.
 const UNEXPLAINED: &str = "refused without an error: a part is nested too deep, or names what \
      the schema does not declare";
 
 /// Why a policy is refused: its errors, and the policy before it that has its id, at this position. There is a cause at least
-/// where one of the two is so.
+/// where one of the two is so, and none where neither is.
 pub fn error_causes<'a>(
     alloc: Global,
     mode: ValidationMode,
@@ -27,10 +27,31 @@ pub fn error_causes<'a>(
     ensures refused { IfOk result (λ causes.
         found.now.is_accepted ≡ false → 0 < length causes.items) }
     ensures repeated { IfOk result (λ causes. is_some same_id ≡ true → 0 < length causes.items) }
+    ensures none { IfOk result (λ causes. found.now.is_accepted ≡ true
+        → is_some same_id ≡ false → length causes.items ≡ 0) }
 {
-    let mut causes = errors_found(alloc, found, policy)?;
-    explain(mode, found.is_accepted, policy, &mut causes)?;
+    let mut causes = why_refused(alloc, mode, found, policy)?;
     add_same_id(policy, same_id, &mut causes)?;
+    Ok(causes)
+}
+
+/// Why a policy is refused by itself: its errors, or where it has none, that none says why.
+fn why_refused<'a>(
+    alloc: Global,
+    mode: ValidationMode,
+    found: &'a Findings,
+    policy: &Template,
+) -> Result<Vec<Found<'a>>, AllocError>
+    ensures refused { IfOk result (λ causes.
+        found.now.is_accepted ≡ false → 0 < length causes.items) }
+    ensures none { IfOk result (λ causes.
+        found.now.is_accepted ≡ true → length causes.items ≡ 0) }
+{
+    if found.is_accepted {
+        return Ok(Vec::new(alloc));
+    }
+    let mut causes = errors_found(alloc, found, policy)?;
+    explain(mode, policy, &mut causes)?;
     Ok(causes)
 }
 
@@ -40,8 +61,10 @@ fn add_same_id(
     same_id: Option<Position>,
     causes: &mut Vec<Found<'_>>,
 ) -> Result<(), AllocError>
-    ensures kept { OnOk result (0 < length causes.old.items → 0 < length causes.new.items) }
     ensures added { OnOk result (is_some same_id ≡ true → 0 < length causes.new.items) }
+    ensures more { OnOk result (length causes.old.items ≤ length causes.new.items) }
+    ensures none { OnOk result (is_some same_id ≡ false
+        → length causes.new.items ≡ length causes.old.items) }
 {
     let Some(other) = same_id else {
         return Ok(());
@@ -52,7 +75,7 @@ fn add_same_id(
     Ok(())
 }
 
-/// The errors that are found, where they stand.
+/// The errors of validation, with their places.
 fn errors_found<'a>(
     alloc: Global,
     found: &'a Findings,
@@ -68,16 +91,15 @@ fn errors_found<'a>(
     Ok(causes)
 }
 
-/// Where a policy is refused without a cause, adds one that says so.
+/// Where there is no cause, adds one that says so.
 fn explain(
     mode: ValidationMode,
-    is_accepted: bool,
     policy: &Template,
     causes: &mut Vec<Found<'_>>,
 ) -> Result<(), AllocError>
-    ensures { OnOk result (is_accepted ≡ false → 0 < length causes.new.items) }
+    ensures { OnOk result (0 < length causes.new.items) }
 {
-    if !is_accepted & causes.is_empty() {
+    if causes.is_empty() {
         let place = place_of(policy);
         let cause = Cause::Unexplained(why_unexplained(mode));
         causes.push(Found { place, cause })?;
@@ -85,7 +107,7 @@ fn explain(
     Ok(())
 }
 
-/// Why a policy can be refused without an error.
+/// The likely reason for a refusal without an error.
 fn why_unexplained(mode: ValidationMode) -> &'static str {
     match mode {
         ValidationMode::Partial => UNEXPLAINED,

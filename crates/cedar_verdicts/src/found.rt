@@ -1,4 +1,4 @@
-// What validation finds in a policy, in any mode.
+// Findings of validation on a policy, in any mode.
 ghost use Rattle.std.specs.Prelude.{◌≡◌, true, None, option_map, IfOk, IfSome};
 ghost use Rattle.cedar_types.specs.declared.base.types.ValidationMode.TheVariants.{Partial};
 ghost use Rattle.cedar_types.specs.Templates.{template_of};
@@ -22,8 +22,8 @@ use cedar_types::base::{
 use std::alloc::{AllocError, Global};
 use std::collections::BTreeMap;
 
-/// What is found in a policy by its survey, its names and its levels, and the texts of extension functions that say no value:
-/// where there is one, the policy is refused.
+/// The findings on a policy: those of its survey, its names and its levels, and the texts of extension functions that make no
+/// value. An error of any of these kinds refuses the policy.
 pub fn find<C: ArgumentCheck>(
     alloc: Global,
     settings: &Settings<'_, C>,
@@ -47,7 +47,7 @@ pub fn find<C: ArgumentCheck>(
     Ok(found)
 }
 
-/// Adds the texts of extension functions that do not read.
+/// Adds the texts of extension functions that are not read. They have no environments, because no typing finds them.
 fn add_unread(
     alloc: Global,
     errors: &mut BTreeMap<ValidationError, Environments>,
@@ -59,7 +59,8 @@ fn add_unread(
     Ok(())
 }
 
-/// What is found in a policy: at the level, if one is asked for, in a mode in which validation promises something.
+/// The findings on a policy without the texts of calls: with level errors, if a level is asked for and validation in this mode
+/// promises something.
 fn find_by_mode<C: ArgumentCheck>(
     alloc: Global,
     settings: &Settings<'_, C>,
@@ -92,7 +93,7 @@ fn find_by_mode<C: ArgumentCheck>(
     }
 }
 
-/// The mode, if it is one in which validation promises something of evaluation.
+/// The mode, if validation in it promises something of evaluation.
 fn sound_mode(mode: ValidationMode) -> Option<SoundMode>
     ensures some { IfSome result (λ m. mode ≡ validation_mode m) }
     ensures none { result ≡ None → mode ≡ Partial }
@@ -104,7 +105,7 @@ fn sound_mode(mode: ValidationMode) -> Option<SoundMode>
     }
 }
 
-/// What typing finds in Partial.
+/// The findings of typing in Partial.
 fn find_in_partial<C: ArgumentCheck>(
     alloc: Global,
     validator: &Validator<'_, C>,

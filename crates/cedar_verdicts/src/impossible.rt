@@ -1,4 +1,4 @@
-// Why a policy is impossible.
+// Parts of a policy that make it impossible.
 use crate::settings::Settings;
 use cedar_findings::hints::hint_for_undeclared;
 use cedar_typechecker::survey::{Environment, Environments};
@@ -10,31 +10,31 @@ use cedar_types::base::{
 use cedar_types::types::request_env::RequestEnv;
 use std::alloc::{AllocError, Global};
 
-/// How many environments are looked at. A policy with more is not explained.
+/// The number of environments that are checked. A policy with more is not explained, because each takes a typing of its own.
 const MAX_CHECKS: usize = 200;
 
-/// How many parts are named. A policy with more is not explained.
+/// The number of parts that are named. A policy with more is not explained.
 const MAX_PARTS: usize = 5;
 
-/// How many environments of a part are listed.
+/// The number of environments of a part that are listed.
 const MAX_LISTED: usize = 5;
 
-/// How many parts may stand inside each other: more than typing goes down.
+/// A bound on parts that stand inside each other: more than typing descends.
 const MAX_DEPTH: usize = 1000;
 
 type Typed = Expr<Option<CedarType>>;
 
-/// A part of a condition that is false, and the environments in which it is; none where it is so in all that the scope admits.
+/// A part of a condition that is false, and its environments; none if it is false in all that the scope admits.
 #[derive(Drop)]
 pub struct FalsePart {
     pub place: Loc,
     pub environments: Environments,
-    /// What may be meant, where it tests for an attribute that is never there; else empty.
+    /// The attribute that may be meant, if the part tests for one that is never there; else empty.
     pub hint: String,
 }
 
-/// The smallest parts of the conditions that are false, of each environment that the scope admits. Where the scope admits
-/// none, or in one of them no part stands anywhere, there are none.
+/// The smallest false part of the conditions for each environment that the scope admits. No part is given if the scope admits
+/// no environment, or if an environment has no false part with a place.
 pub fn false_parts<C: ArgumentCheck>(
     alloc: Global,
     settings: &Settings<'_, C>,
@@ -70,7 +70,8 @@ pub fn false_parts<C: ArgumentCheck>(
     Ok(parts)
 }
 
-/// Adds an environment to a part, unless there is none with a place or one too many.
+/// Adds an environment to its false part. The answer is false if there is no part, if the part has no place, or if it would be
+/// one part too many.
 fn add_part(
     alloc: Global,
     schema: &ValidatorSchema,
@@ -103,7 +104,7 @@ fn add_part(
     Ok(true)
 }
 
-/// The attribute that may be meant, where a part tests for one that is never there.
+/// The attribute that may be meant, if a part tests for one that is never there.
 fn hint_for(alloc: Global, schema: &ValidatorSchema, part: &Typed) -> Result<String, AllocError> {
     let ExprKind::HasAttr(base, attribute) = &part.kind else {
         return Ok(String::new(alloc));
@@ -141,7 +142,7 @@ fn copy(ty: Option<&EntityType>) -> Result<Option<EntityType>, AllocError> {
     }
 }
 
-/// Where there is one part, it is false in all environments that the scope admits.
+/// Clears the environments of a single part, because it is false in all that the scope admits.
 fn forget_only_environments(alloc: Global, parts: &mut Vec<FalsePart>) {
     if parts.len() > 1 {
         return;
@@ -151,7 +152,8 @@ fn forget_only_environments(alloc: Global, parts: &mut Vec<FalsePart>) {
     }
 }
 
-/// Whether an environment may be one of the actions of a scope.
+/// Whether a scope may admit an environment's action. Only `action == ..` is decided here, which saves a typing; any other
+/// scope shows in the typed condition.
 fn is_of_action(env: &RequestEnv<'_>, constraint: &ActionConstraint) -> bool {
     match (constraint, env.action_entity_uid()) {
         (ActionConstraint::Eq(wanted), Some(action)) => wanted == action,
@@ -178,7 +180,7 @@ fn smallest_false(condition: &Typed) -> &Typed {
     part
 }
 
-/// The part of a false expression that makes it so, if one part alone does.
+/// The part of a false expression that makes it false, if a single one does.
 fn false_operand(expr: &Typed) -> Option<&Typed> {
     match &expr.kind {
         ExprKind::And(left, right) => {
@@ -201,7 +203,7 @@ fn false_operand(expr: &Typed) -> Option<&Typed> {
     }
 }
 
-/// The part behind the first test that is always as is said beside it, if one is.
+/// The part behind the first test that always has the value beside it, if one has.
 fn part_behind<'a>(tests: [(&Typed, BoolType, &'a Typed); 2]) -> Option<&'a Typed> {
     for (test, value, part) in tests {
         if is_always(test, value) {

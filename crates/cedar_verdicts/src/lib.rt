@@ -1,5 +1,5 @@
-//! What is wrong with schemas, policies and data in texts, whoever asks: verdicts, findings with their
-//! words and places, and counts. No file is read here, and nothing is written.
+//! Verdicts on schemas, policies and data in texts, for any caller: findings with their words and places, and counts. The
+//! library reads no file and writes nothing.
 #![tactic(auto)]
 
 pub mod call_ids;

@@ -1,4 +1,4 @@
-//! Links of templates, where they stand in a file of their own: a list of objects of `template_id`, `link_id` and `args`.
+//! Links of templates in a file of their own: a list of objects with `template_id`, `link_id` and `args`.
 ghost use Rattle.std.specs.Prelude.{◌≡◌, ◌&&◌, true, false, is_some, IfOk, IfSome};
 ghost use Rattle.cedar_types.specs.Names.{text_of};
 ghost use Rattle.cedar_types.specs.Templates.{reference_of, scope_of, template_of};
@@ -21,29 +21,29 @@ use std::alloc::{AllocError, Global};
 use std::collections::BTreeSet;
 use std::rc::RcStr;
 
-/// What is expected as the value of a slot.
+/// The expected form of a slot's value.
 const ID: &str = "a text such as `User::\"alice\"`";
 
-/// What became of a link so far.
+/// The state of a link so far.
 #[derive(Clone, Copy, PartialEq, Eq)]
 enum State {
-    /// No policy has the id of its template.
+    /// No policy has the id of the link's template.
     Waiting,
     Linked,
-    /// Its template has another slot than it binds, or one more.
+    /// The link's template lacks a slot that the link binds, or has one that it does not bind.
     Unfit,
-    /// A policy has its own id.
+    /// A policy or an earlier link has the id of the link.
     Taken,
 }
 
-/// A text of the file, and where it stands.
+/// A text of the file, with its place.
 #[derive(Drop)]
 struct Word {
     text: RcStr,
     place: Loc,
 }
 
-/// A link: its own id, that of its template, and what the slots are bound to.
+/// A link: its own id, the id of its template, and the entities that its slots are bound to.
 #[derive(Drop)]
 struct Link {
     id: Word,
@@ -69,7 +69,7 @@ impl Links {
         }
     }
 
-    /// The links of a text, or its first fault. It fails where memory is refused.
+    /// The links of a text, or its first fault. If memory is refused, the answer is an `AllocError`.
     pub fn read(alloc: Global, text: &str) -> Result<Result<Links, TextFault>, AllocError> {
         match read_links(alloc, text) {
             Ok(links) => {
@@ -80,12 +80,13 @@ impl Links {
         }
     }
 
-    /// The text that they were read from.
+    /// The text of the links.
     pub fn text(&self) -> &str {
         self.text.as_str()
     }
 
-    /// The policies that link this one, each under its own id, at the place of this one. Takes note of the id of this one.
+    /// The policies that link this template, each under its own id, at the template's place. Takes note of the template's id,
+    /// because no link may have it.
     pub fn of_policy(
         &mut self,
         alloc: Global,
@@ -106,7 +107,8 @@ impl Links {
         Ok(linked)
     }
 
-    /// What is wrong with the links, once all policies were met: each link that made no policy.
+    /// The faults of the links after all policies are met: one for each link that made no policy, or whose id a policy or an
+    /// earlier link has.
     pub fn faults(&self, alloc: Global) -> Result<Vec<TextFault>, AllocError> {
         let mut faults = Vec::new(alloc);
         for link in &self.links {
@@ -125,8 +127,8 @@ impl Links {
 }
 
 impl Link {
-    /// The template with its slots bound, and the id of the link (clause `linked`). There is none exactly where the link does not
-    /// bind the slots that the template has (clause `exact`).
+    /// The template with its slots bound, and the id of the link (clause `linked`). There is a policy exactly if the link binds
+    /// the slots that the template has (clause `exact`).
     fn apply(&mut self, alloc: Global, template: &Template) -> Result<Option<Template>, AllocError>
         ensures exact { IfOk result (λ made. is_some made
             ≡ (fits_in self.old.principal (scope_of template.now.principal_constraint.constraint)
@@ -150,7 +152,7 @@ impl Link {
     }
 }
 
-/// Binds the slot of a constraint. Whether it has one where it is bound, and none where it is not.
+/// Binds the slot of a constraint. The answer tells whether the constraint has a slot exactly if an entity is bound.
 fn bind(
     constraint: &mut PrincipalOrResourceConstraint,
     uid: &Option<EntityUID>,
@@ -183,8 +185,8 @@ fn fill(reference: &mut EntityReference, uid: &Option<EntityUID>) -> Result<bool
     Ok(!is_slot)
 }
 
-/// What is said of a policy that links one of this text, as `judge` says it. Hints take their examples from the text, unless it is
-/// JSON.
+/// The verdict on a policy that links a template of this text, as `judge` gives it. Hints take their examples from the text,
+/// unless the text is JSON.
 pub fn judge_link<C: ArgumentCheck>(
     alloc: Global,
     settings: &Settings<'_, C>,
@@ -240,7 +242,7 @@ fn read_word(alloc: Global, value: &Value) -> Result<Word, FormError> {
     Ok(Word { text, place })
 }
 
-/// The id that a text says, without a place: that of the text is none of the policies' file.
+/// The id that a text names, without a place, because its place is not one in the policies' file.
 fn read_uid(alloc: Global, value: Option<&Value>) -> Result<Option<EntityUID>, FormError> {
     let Some(value) = value else {
         return Ok(None);

@@ -1,4 +1,4 @@
-//! What is wrong with a text of policies that is read alone, without a schema.
+//! Faults of a text of policies that is only read, without a schema.
 use crate::causes::place_of;
 use crate::ids::Ids;
 use crate::policies::{Policies, Read};
@@ -10,19 +10,19 @@ use cedar_reading::Position;
 use cedar_types::base::{ExtensionSchemas, Template};
 use std::alloc::{AllocError, Global};
 
-/// What was read of a text.
+/// The result of reading a text.
 #[derive(Drop)]
 pub struct Parsed {
-    /// How many policies could be read.
+    /// The number of policies that could be read.
     pub policies: u64,
-    /// The faults of the others, in the order of the text, at most `MAX_FAULTS`.
+    /// The faults of the other policies, in the order of the text, at most `MAX_FAULTS`.
     pub faults: Vec<TextFault>,
-    /// Whether the rest of the text was not read, since it has `MAX_FAULTS` faults.
+    /// Whether the rest of the text was not read, because the text has `MAX_FAULTS` faults.
     pub is_cut: bool,
 }
 
-/// Reads the policies of a text, in this syntax or in the one of its first characters. A policy whose id an earlier one has is a
-/// fault. It fails where memory is refused.
+/// Reads the policies of a text, in this syntax or in the one that its first characters tell. A policy with the id of an
+/// earlier one is a fault. If memory is refused, the answer is an `AllocError`.
 pub fn parse_policies(
     alloc: Global,
     syntax: Option<Syntax>,
@@ -58,6 +58,7 @@ impl Parsed {
             let Some(next) = policies.give(alloc, &functions)? else {
                 break;
             };
+            // the text is cut only if a policy is left, because a text with just a hundred faults is read as a whole
             if self.faults.len() as u64 >= MAX_FAULTS {
                 self.is_cut = true;
                 break;
@@ -80,7 +81,7 @@ impl Parsed {
         }
     }
 
-    /// Counts a policy, or adds that another one has its id.
+    /// Counts a policy, or adds the fault that an earlier policy has its id.
     fn add(
         &mut self,
         alloc: Global,

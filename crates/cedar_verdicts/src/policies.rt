@@ -1,4 +1,4 @@
-//! The policies of a text, in one syntax or the other.
+//! Policies of a text, in either syntax.
 ghost use Rattle.std.specs.Prelude.{◌≡◌, IfOk, OnErr, OnOk};
 ghost use Rattle.cedar_verdicts.specs.Reading.{comes_next, IsBegun, IsReadOn};
 
@@ -12,24 +12,24 @@ use std::alloc::{AllocError, Global};
 /// A policy of a text, read or not.
 #[derive(Drop)]
 pub enum Read {
-    /// It is read, and these of its texts have marks of direction.
+    /// A policy, and its texts that have marks of direction.
     Policy(Template, Vec<Marked>),
-    /// It cannot be read, or has a part that Cedar's own parser refuses.
+    /// A fault of a policy that cannot be read, or that has a part which Cedar's own parser refuses.
     Fault(TextFault),
 }
 
-/// Gives the policies of a text, one after another. It has read the one that comes next.
+/// Gives the policies of a text, one after another. The next one is read ahead.
 #[derive(Drop)]
 pub struct Policies<'a> {
     text: &'a str,
     reader: Reader<'a>,
-    /// The one that comes next; none where all were given.
+    /// The next policy; none if all were given.
     next: Option<Read>,
-    /// How many may come behind that one, since each has a byte at least; none once the text has ended.
+    /// An upper bound on the policies behind the next one, because each takes at least one byte; zero once the text has ended.
     left: usize,
 }
 
-/// What reads them.
+/// The reader of the policies.
 #[derive(Drop)]
 enum Reader<'a> {
     Cedar(cedar_reading::Policies<'a>),
@@ -37,7 +37,7 @@ enum Reader<'a> {
 }
 
 impl<'a> Policies<'a> {
-    /// Those of a text in Cedar's own syntax, or the fault that it has as a whole.
+    /// The policies of a text in Cedar's own syntax, or the fault of the whole text.
     pub fn of_text<C>(
         alloc: Global,
         functions: &ExtensionSchemas<C>,
@@ -54,7 +54,7 @@ impl<'a> Policies<'a> {
         }
     }
 
-    /// Those of a text of JSON, or the fault that it has as a whole.
+    /// The policies of a text of JSON, or the fault of the whole text.
     pub fn of_json<C>(
         alloc: Global,
         functions: &ExtensionSchemas<C>,
@@ -71,12 +71,12 @@ impl<'a> Policies<'a> {
         }
     }
 
-    /// How many policies there are at most: each has a byte at least.
+    /// An upper bound on the number of policies, because each takes at least one byte.
     pub fn most(&self) -> usize {
         self.left.saturating_add(1)
     }
 
-    /// The text that hints take their examples from, in Cedar's own syntax: none of JSON.
+    /// The text that hints take their examples from: empty for JSON, because examples are in Cedar's own syntax.
     pub fn examples(&self) -> &'a str {
         match &self.reader {
             Reader::Cedar(_) => self.text,
@@ -84,7 +84,7 @@ impl<'a> Policies<'a> {
         }
     }
 
-    /// Before the first policy.
+    /// The policies of a text, of which none was given yet.
     fn begin<C>(
         alloc: Global,
         functions: &ExtensionSchemas<C>,
@@ -103,9 +103,8 @@ impl<'a> Policies<'a> {
         Ok(policies)
     }
 
-    /// Gives the policy that comes next, and reads on; `None` where all were given. Calls in the policy behind it are of the
-    /// functions of Cedar, or of this table. Where memory is refused, the answer is an `AllocError`, and the same policy comes
-    /// next.
+    /// Gives the next policy, and reads the one behind it; `None` if all were given. Calls in the policy behind are of Cedar's
+    /// functions, or of this table. If memory is refused, the answer is an `AllocError`, and the next policy stays.
     pub fn give<C>(
         &mut self,
         alloc: Global,
@@ -131,7 +130,7 @@ impl<'a> Policies<'a> {
         }
     }
 
-    /// Reads the policy behind the one that comes next; `None` where the text has ended.
+    /// Reads the policy behind the next one; `None` if the text has ended.
     fn read_next<C>(
         &mut self,
         alloc: Global,
@@ -157,7 +156,7 @@ impl<'a> Policies<'a> {
 }
 
 impl Reader<'_> {
-    /// Reads the next policy; `None` where the text has ended.
+    /// Reads the next policy; `None` if the text has ended.
     fn read<C>(
         &mut self,
         alloc: Global,
@@ -185,7 +184,7 @@ impl Reader<'_> {
     }
 }
 
-/// A policy that was read, with its text in Cedar's own syntax if there is one, unless a part may not stand in it.
+/// A policy that was read, with its text if it is in Cedar's own syntax, or a fault if it has a forbidden part.
 fn allow<C>(
     alloc: Global,
     functions: &ExtensionSchemas<C>,

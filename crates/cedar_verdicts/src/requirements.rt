@@ -1,4 +1,4 @@
-// The level that is said of a policy.
+// Levels that verdicts give as required.
 ghost use Rattle.std.specs.Prelude.{◌≡◌, true, false, option_map, IfOk};
 ghost use Rattle.cedar_types.specs.Templates.{template_of};
 ghost use Rattle.cedar_verdicts.specs.Verdicts.{basis_of, is_said, is_sound, level_said, PassesWithoutLevel};
@@ -10,7 +10,7 @@ use cedar_host::policy_sets::Findings;
 use cedar_types::base::{ArgumentCheck, Template, ValidationError, ValidationMode};
 use std::alloc::{AllocError, Global};
 
-/// The level that a policy requires, unless something else than its level is found against it.
+/// The level that a policy requires, unless the policy would be refused without a level too.
 pub fn requirement<C: ArgumentCheck>(
     alloc: Global,
     settings: &Settings<'_, C>,
@@ -45,8 +45,8 @@ fn has_levels(mode: ValidationMode) -> bool
     }
 }
 
-/// Whether a policy is accepted, or would be if no level were asked for. That is looked at only where all its errors are about
-/// its level: a part that is nested too deep can fail its check without an error of its own.
+/// Whether a policy passes if no level is asked for. A refused policy with nothing but level errors is judged again without a
+/// level, because a part that is nested too deep can fail its check without an error.
 fn passes_without_level<C: ArgumentCheck>(
     alloc: Global,
     settings: &Settings<'_, C>,

@@ -1,4 +1,4 @@
-//! The schema of texts, or what is wrong with it, in one syntax or the other.
+//! Schemas of texts in either syntax, or their faults.
 use cedar_findings::faults::{TextFault, Written, all_schema_faults, hiding_fault, schema_fault};
 use cedar_findings::json_faults::form_fault;
 use cedar_findings::schema_texts::SchemaTexts;
@@ -7,7 +7,7 @@ use cedar_reading::{ReadSchema, schema_with_hiding};
 use cedar_types::base::{Loc, ValidatorSchema};
 use std::alloc::{AllocError, Global};
 
-/// How many faults of a text are told.
+/// The number of faults of a text that are told.
 const MAX_FAULTS: usize = 100;
 
 /// A fault of a schema, in the text of this number.
@@ -17,7 +17,7 @@ pub struct SchemaFault {
     pub fault: TextFault,
 }
 
-/// The schema that texts in Cedar's own syntax declare together, or each of their faults.
+/// The schema that texts in Cedar's own syntax declare together, or all their faults.
 pub fn schema_or_faults(
     alloc: Global,
     texts: &SchemaTexts,
@@ -34,8 +34,8 @@ pub fn schema_or_faults(
     Ok(Err(faults))
 }
 
-/// The schema that a text of JSON declares, or its faults, by place, the first hundred, where they stand there: those of its form,
-/// and those of the declarations without a fault of form, unless names may be missing.
+/// The schema that a text of JSON declares, or its first hundred faults by place in the JSON: those of its form, and those of
+/// the declarations without a fault of form, unless names may be missing.
 pub fn json_schema_or_faults(
     alloc: Global,
     json: &str,
@@ -53,7 +53,7 @@ pub fn json_schema_or_faults(
     Ok(Err(faults))
 }
 
-/// Adds the faults of form of a text of JSON, and those of its rest.
+/// Adds the faults of form of a text of JSON, and the faults of its other declarations.
 fn add_faults_of_form(
     alloc: Global,
     json: &str,
@@ -77,7 +77,7 @@ fn add_faults_of_form(
     }
 }
 
-/// Adds the faults of a text that was written from JSON, of which this is one, where they stand in the JSON.
+/// Adds the faults of a text that was written from JSON, at their places in the JSON. The first one is known.
 fn add_faults_of_text(
     alloc: Global,
     written: &Translation,
@@ -87,7 +87,7 @@ fn add_faults_of_text(
     for fault in all_schema_faults(alloc, written.text(), first)? {
         let TextFault { place, text } = fault;
         let place = written.origin_of(place.start);
-        // a common type that stands for a shape is written at each, and its faults stand at one place
+        // a common type that stands for a shape is written at each of its uses, so its faults come more than once at one place
         if !is_told(faults, place, text.as_str()) {
             faults.push(TextFault { place, text })?;
         }
@@ -95,14 +95,14 @@ fn add_faults_of_text(
     Ok(())
 }
 
-/// Whether these have the fault of this text at this place.
+/// Whether these faults have one of this text at this place.
 fn is_told(faults: &Vec<TextFault>, place: Loc, text: &str) -> bool {
     faults
         .iter()
         .any(|it| it.place == place && it.text.as_str() == text)
 }
 
-/// The schema that a text in Cedar's own syntax declares, or the first fault that it has.
+/// The schema that a text in Cedar's own syntax declares, or its first fault.
 fn schema_or_fault(
     alloc: Global,
     text: &str,

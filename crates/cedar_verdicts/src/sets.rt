@@ -1,4 +1,4 @@
-//! What is said of the policies of a set, where two may not have one id.
+//! Verdicts on the policies of a set, in which no two may have one id.
 ghost use Rattle.std.specs.Prelude.{◌≡◌, ◌||◌, false, is_some, map, IfOk, OnOk};
 ghost use Rattle.cedar_types.specs.Names.{Text, text_eq, text_of};
 ghost use Rattle.cedar_types.specs.Templates.{template_of};
@@ -17,19 +17,20 @@ use cedar_reading::Position;
 use cedar_types::base::{ArgumentCheck, Template};
 use std::alloc::{AllocError, Global};
 
-/// Judges the policies of a set, one after another: it knows the ids of those so far.
+/// A judge of the policies of a set, one after another: it knows the ids of the policies so far.
 #[derive(Drop)]
 pub struct SetJudge<'a> {
     ids: Ids,
     /// The text that hints take their examples from.
     examples: &'a str,
-    /// Those of the text of the set. They have an index once an id is repeated, since policies that share ids stand anywhere.
+    /// The places of the set's text. They get an index at the first repeated id, because two policies that share an id can
+    /// stand anywhere.
     places: Places<'a>,
     has_index: bool,
 }
 
 impl<'a> SetJudge<'a> {
-    /// Of a set without policies so far, whose places are in this text, and whose hints take their examples from that one.
+    /// A judge of a set without policies so far. Places are in the first text, and hints take their examples from the second.
     pub fn new(alloc: Global, text: &'a str, examples: &'a str) -> SetJudge<'a>
         ensures { (t : Text) → has_id result.ids t ≡ false }
     {
@@ -41,7 +42,7 @@ impl<'a> SetJudge<'a> {
         }
     }
 
-    /// What is said of the next policy of the set: where an earlier one has its id, it is refused.
+    /// The verdict on the next policy of the set, which is refused if an earlier policy has its id.
     pub fn judge_next<C: ArgumentCheck>(
         &mut self,
         alloc: Global,
@@ -61,7 +62,7 @@ impl<'a> SetJudge<'a> {
         Ok(verdict)
     }
 
-    /// What is said of the next policy of the set, in which these texts have marks of direction.
+    /// The verdict on the next policy of the set, in which these texts have marks of direction.
     pub(crate) fn judge_marked<C: ArgumentCheck>(
         &mut self,
         alloc: Global,
@@ -83,7 +84,7 @@ impl<'a> SetJudge<'a> {
         Ok(verdict)
     }
 
-    /// Where the first policy of an id stands, if there is one, which begins at this byte.
+    /// The position of the first policy of an id, if there is one, from its first byte.
     fn position_of(&mut self, first: Option<usize>) -> Result<Option<Position>, AllocError>
         ensures same { IfOk result (λ position. is_some position ≡ is_some first) }
         ensures kept { self.new.ids ≡ self.old.ids }
@@ -99,9 +100,9 @@ impl<'a> SetJudge<'a> {
     }
 }
 
-/// What is said of each policy of a set, whose places are in this text, and whose hints take their examples from it. Each verdict
-/// is as of the policy alone, but that a policy is refused where an earlier one has its id. Where memory is refused, the answer is
-/// an `AllocError`.
+/// The verdicts on the policies of a set, whose places are in this text, and whose hints take their examples from it. Each
+/// verdict is as `judge` gives it, but a policy is refused if an earlier one has its id. If memory is refused, the answer is an
+/// `AllocError`.
 pub fn judge_set<C: ArgumentCheck>(
     alloc: Global,
     settings: &Settings<'_, C>,

@@ -1,4 +1,4 @@
-//! What is said of texts, as an output shows it. Who calls has the files, and writes what is shown.
+//! Verdicts on texts, as an output shows them. The caller reads the files, and writes the shown text.
 pub mod changes;
 pub mod policies;
 pub mod schemas;

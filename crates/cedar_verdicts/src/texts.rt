@@ -1,4 +1,4 @@
-//! What is said of the policies of a text, one after another.
+//! Verdicts on the policies of a text, one after another.
 ghost use Rattle.std.specs.Prelude.{◌≡◌, ◌<◌, false, None, IfOk, IfSome};
 ghost use Rattle.cedar_types.specs.Names.{Text};
 ghost use Rattle.cedar_verdicts.specs.Ids.{has_id};
@@ -15,7 +15,7 @@ use cedar_findings::syntaxes::Syntax;
 use cedar_types::base::{ArgumentCheck, ExtensionSchemas, Template};
 use std::alloc::{AllocError, Global};
 
-/// How many faults of a text are told.
+/// The number of faults of a text that are told.
 pub const MAX_FAULTS: u64 = 100;
 
 /// A text of policies, and its syntax.
@@ -26,19 +26,19 @@ pub struct PolicyText<'a> {
 }
 
 impl<'a> PolicyText<'a> {
-    /// A text in a syntax, or in the one that its first characters are of.
+    /// A text in this syntax, or in the one that its first characters tell.
     pub fn new(syntax: Option<Syntax>, text: &'a str) -> PolicyText<'a> {
         let syntax = syntax.unwrap_or(Syntax::of(text));
         PolicyText { text, syntax }
     }
 
-    /// Whether it is JSON: then its policies do not come in the order of their places.
+    /// Whether the text is JSON. The policies of JSON do not come in the order of their places.
     pub fn is_json(&self) -> bool {
         self.syntax == Syntax::Json
     }
 
-    /// What is said of its policies, of which none was judged yet, or the fault that it has as a whole. Calls in them are of the
-    /// functions of Cedar, or of this table.
+    /// The verdicts on the text's policies, none judged yet, or the fault of the whole text. Calls in the policies are of
+    /// Cedar's functions, or of this table.
     pub fn verdicts<C>(
         &self,
         alloc: Global,
@@ -68,16 +68,16 @@ impl<'a> PolicyText<'a> {
     }
 }
 
-/// What is said next of a text of policies.
+/// The answer on the next policy of a text.
 #[derive(Drop)]
 pub enum Said {
-    /// This policy, and what is said of it.
+    /// A policy, and its verdict.
     Verdict(Template, Verdict),
-    /// A policy that cannot be read.
+    /// The fault of a policy that cannot be read.
     Fault(TextFault),
 }
 
-/// What is said of the policies of a text, in its order.
+/// The verdicts on the policies of a text, in its order.
 #[derive(Drop)]
 pub struct PolicyVerdicts<'a> {
     policies: Policies<'a>,
@@ -87,20 +87,21 @@ pub struct PolicyVerdicts<'a> {
 }
 
 impl PolicyVerdicts<'_> {
-    /// How often something is said at most.
+    /// An upper bound on the number of answers.
     pub fn most(&self) -> usize {
         self.policies.most()
     }
 
-    /// Whether the rest of the text was not read, since it has `MAX_FAULTS` faults.
+    /// Whether the rest of the text was not read, because the text has `MAX_FAULTS` faults.
     pub fn is_cut(&self) -> bool {
         self.is_cut
     }
 
-    /// What is said next; `None` where all is said, or the rest is not read. Each policy of the text, read or not, gets one word in
-    /// its order: the word is of the policy that comes next (clause `each`), and the one behind it comes then (clause `in_order`).
-    /// Where nothing is said, none comes, or a hundred faults were told (clauses `none_left` and `counted`). What is said of a policy is
-    /// as `judge` says it (clause `right`), and a policy is refused where one before it has its id (clauses `whole` and `taken`).
+    /// The answer on the next policy; `None` if there is none, or the rest is not read. Each policy of the text, read or not,
+    /// gets one answer in its order: the answer is on the next policy (clause `each`), and then the policy behind is next
+    /// (clause `in_order`). `None` means that no policy is left, or that a hundred faults were told (clauses `none_left` and
+    /// `counted`). A verdict is as right as one of `judge` (clause `right`), and a policy is refused if one before it has its
+    /// id (clauses `whole` and `taken`).
     pub fn next_said<C: ArgumentCheck>(
         &mut self,
         alloc: Global,
@@ -123,6 +124,7 @@ impl PolicyVerdicts<'_> {
         let Some(read) = self.policies.give(alloc, functions)? else {
             return Ok(None);
         };
+        // the text is cut only if a policy is left, because a text with just a hundred faults is read as a whole
         if self.faults >= MAX_FAULTS {
             self.is_cut = true;
             return Ok(None);

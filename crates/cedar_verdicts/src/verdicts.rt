@@ -1,4 +1,4 @@
-//! What is said of a policy.
+//! Verdicts on single policies.
 ghost use Rattle.std.specs.Prelude.{false, is_some, IfOk};
 ghost use Rattle.cedar_types.specs.Templates.{template_of};
 ghost use Rattle.cedar_verdicts.specs.Verdicts.{basis_of, IsRightVerdict, IsWholeVerdict};
@@ -15,13 +15,13 @@ use cedar_reading::Position;
 use cedar_types::base::{ArgumentCheck, Template};
 use std::alloc::{AllocError, Global};
 
-/// How many findings of a policy are put into words.
+/// The number of findings of a policy that are put into words.
 const MAX_FINDINGS: usize = 100;
 
 /// What is said of a policy alone; its hints take their examples from this text. Where it is accepted in Strict or in Permissive,
 /// it does not go wrong, and needs the slice of the level alone, if one is asked for; a level that is said is the required one
-/// (clause `right`). It is accepted exactly where its checks, its names, its levels and the texts of its calls have no error, and
-/// where it is refused, an error is listed (clause `whole`). Where memory is refused, the answer is an `AllocError`.
+/// (clause `right`). It is accepted exactly where its checks, its names, its levels and the texts of its calls have no error, and an
+/// error is listed exactly where it is refused (clause `whole`). Where memory is refused, the answer is an `AllocError`.
 pub fn judge<C: ArgumentCheck>(
     alloc: Global,
     settings: &Settings<'_, C>,
@@ -38,8 +38,8 @@ pub fn judge<C: ArgumentCheck>(
     Ok(verdict)
 }
 
-/// What is said of a policy of a set, in which these texts have marks of direction: where an earlier one of the set has its id, at
-/// this position of the text, it is refused.
+/// The verdict on a policy of a set, in which these texts have marks of direction. The policy is refused if an earlier one of
+/// the set has its id, at this position of the text.
 pub(crate) fn judge_in_set<C: ArgumentCheck>(
     alloc: Global,
     settings: &Settings<'_, C>,

@@ -1,5 +1,5 @@
 // Which findings of a policy are put into words, and these.
-ghost use Rattle.std.specs.Prelude.{◌<◌, length, IfOk, OnOk};
+ghost use Rattle.std.specs.Prelude.{◌≡◌, ◌<◌, length, IfOk, OnOk};
 
 use crate::causes::{Cause, Found, types_shown};
 use crate::environments::ShownEnvironments;
@@ -9,46 +9,48 @@ use cedar_reading::Position;
 use cedar_types::base::{Message, Template, ValidatorSchema};
 use std::alloc::{AllocError, Global};
 
-/// What is said of a part that makes a policy impossible.
+/// The hint at a part that makes a policy impossible.
 const NEVER_TRUE: &str = "this part is never true";
 
-/// How many other types of one mistake are named.
+/// The number of other types of one mistake that are named.
 const MAX_ALSO: usize = 4;
 
-/// What the findings of a policy are about.
+/// The subject of a policy's findings.
 #[derive(Clone, Copy)]
 pub struct About<'a> {
     pub schema: &'a ValidatorSchema,
     pub policy: &'a Template,
     /// The text that hints take their examples from.
     pub text: &'a str,
-    /// In how many environments it may apply.
+    /// The number of environments in which the policy may apply.
     pub applicable: u64,
 }
 
-/// What is found in the same way at one place: the first cause, and others that differ in nothing but types.
+/// A mistake at one place: its first cause, and others that differ only in types.
 #[derive(Drop)]
 struct Mistake<'a> {
     first: Found<'a>,
     others: Vec<Found<'a>>,
 }
 
-/// The first findings, in ascending order, and how many more there are.
+/// The first findings, in ascending order, and the number of the others.
 #[derive(Drop)]
 pub struct FirstFindings {
     pub listed: Vec<Finding>,
     pub others: usize,
 }
 
-/// The first findings in order, at most so many. What is found of several types in the same way is one finding.
+/// The first findings in order, at most `most`. Errors that differ only in types are one finding.
 pub fn first_findings(
     alloc: Global,
     about: About<'_>,
     mut causes: Vec<Found<'_>>,
     most: usize,
 ) -> Result<FirstFindings, AllocError>
-    ensures { IfOk result (λ findings.
+    ensures some { IfOk result (λ findings.
         0 < most → 0 < length causes.entry.items → 0 < length findings.listed.items) }
+    ensures none { IfOk result (λ findings.
+        length causes.entry.items ≡ 0 → length findings.listed.items ≡ 0) }
 {
     causes.sort_by_key(|it| (it.place.start, it.place.end))?;
     let mut findings = FirstFindings {
@@ -85,7 +87,7 @@ impl<'a> Mistake<'a> {
     }
 }
 
-/// Adds the finding of a mistake, or counts it where there are so many.
+/// Adds the finding of a mistake, or counts it if there are `most` already.
 fn add_mistake(
     alloc: Global,
     about: About<'_>,
@@ -143,7 +145,7 @@ fn hint(alloc: Global, about: About<'_>, cause: Cause<'_>) -> Result<String, All
     }
 }
 
-/// That a part is never true, and what may be meant by it.
+/// The hint that a part is never true, with the meant name if one is near.
 fn hint_for_false(alloc: Global, meant: &str) -> Result<String, AllocError> {
     if meant.is_empty() {
         return String::from_str(alloc, NEVER_TRUE);
@@ -151,7 +153,7 @@ fn hint_for_false(alloc: Global, meant: &str) -> Result<String, AllocError> {
     format!(in alloc; "{NEVER_TRUE}: {meant}")
 }
 
-/// The types of these errors: of the first few, and how many more there are.
+/// The types of these errors: the first few, and the number of the others.
 fn types_of(alloc: Global, errors: &[Found<'_>]) -> Result<Vec<String>, AllocError> {
     let mut types = Vec::new(alloc);
     for it in errors.iter().take(MAX_ALSO) {
@@ -166,7 +168,8 @@ fn types_of(alloc: Global, errors: &[Found<'_>]) -> Result<Vec<String>, AllocErr
     Ok(types)
 }
 
-/// The environments of a mistake, or of a part that is false: of one the policy may apply in none.
+/// The environments of a mistake. A false part lists its environments whatever their number, because an impossible policy may
+/// apply in none.
 fn environments_of(
     alloc: Global,
     applicable: u64,

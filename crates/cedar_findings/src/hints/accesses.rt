@@ -1,4 +1,4 @@
-// Attributes and tags that are not there, or may not be.
+// Hints against attributes and tags that are not declared, or may be missing.
 use crate::escapes::ShownId;
 use crate::parts::{operation_at, text_at};
 use crate::similar::Search;
@@ -10,7 +10,7 @@ use cedar_types::base::{
 use std::alloc::{AllocError, Global};
 use std::rc::RcStr;
 
-/// The attribute of the type whose name is nearest, or of several types one that does not have it.
+/// The attribute with the nearest name, or one of several types that does not have the attribute.
 pub fn hint_for_attribute(
     alloc: Global,
     schema: &ValidatorSchema,
@@ -24,8 +24,8 @@ pub fn hint_for_attribute(
     hint_for_undeclared(alloc, schema, &found.accessed_type, &found.attr)
 }
 
-/// The attribute of a type that may be meant by one that it does not declare, or an empty text. Of several entity types the
-/// attributes of the first are compared.
+/// The attribute of a type that may be meant by one that the type does not declare, or an empty text. If there are several
+/// entity types, the attributes of the first are compared.
 pub fn hint_for_undeclared(
     alloc: Global,
     schema: &ValidatorSchema,
@@ -78,7 +78,7 @@ fn attributes_of<'a>(
     }
 }
 
-/// Of several types, some of which declare an attribute, the first that does not.
+/// The first of several types that does not declare an attribute, if another one does.
 fn type_without<'a>(
     schema: &ValidatorSchema,
     types: &'a EntityLUB,
@@ -121,7 +121,7 @@ pub fn hint_for_optional(
     format!(in alloc; "`has` may guard it, as in `{base} has \"{attribute}\" && {access}`")
 }
 
-/// What stands before the last attribute of an access.
+/// The text before the last attribute of an access.
 fn base_of<'a>(access: &'a str, attribute: &str) -> Option<&'a str> {
     let base = match access.strip_suffix(']') {
         Some(_) if attribute.contains('[') => return None,
@@ -148,7 +148,7 @@ fn is_word(attribute: &str) -> bool {
             .all(|c| c.is_ascii_alphanumeric() || c == '_')
 }
 
-/// The test for a tag, as it can stand before the access; or that there are no tags.
+/// The test for a tag, as it can stand before the access; or the hint that there are no tags.
 pub fn hint_for_tag(
     alloc: Global,
     schema: &ValidatorSchema,
@@ -194,7 +194,7 @@ fn has_tags(schema: &ValidatorSchema, entity_type: &EntityType) -> bool {
     }
 }
 
-/// The texts of the entity and of the tag, of an access that is short.
+/// The texts of the entity and of the tag in a short access.
 fn tag_access<'a>(
     alloc: Global,
     policy: &Template,
@@ -215,7 +215,7 @@ fn tag_access<'a>(
     })
 }
 
-/// What stands at a place up to the method of this name, before its argument.
+/// The text at a place up to the method of this name, before its argument.
 fn base_before<'a>(
     text: &'a str,
     place: Option<Loc>,

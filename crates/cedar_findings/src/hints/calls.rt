@@ -1,4 +1,4 @@
-// Functions that there are not.
+// Hints against calls of undefined functions.
 use crate::parts::{arguments_at, text_at};
 use crate::similar::Search;
 use cedar_extensions::checks::CONSTRUCTORS;
@@ -17,11 +17,11 @@ const METHODS: [&str; 6] = [
     "getTag",
 ];
 
-/// All that can be called.
+/// The hint that lists all functions and methods.
 const ALL: &str = "there are `contains`, `containsAll`, `containsAny`, `isEmpty`, `hasTag`, \
      `getTag`, and the functions of the extensions";
 
-/// What may be meant by a call of no function that validation found.
+/// The hint against a call of an undefined function that validation found.
 pub fn hint_for_function(
     alloc: Global,
     policy: &Template,
@@ -32,8 +32,8 @@ pub fn hint_for_function(
     hint_for_call(alloc, text, &found.name, arguments)
 }
 
-/// What may be meant by a call of no function, of this name and on these arguments: that a function has no path, that the name is
-/// one of a method, which function or method is nearest, or what there is in place of others.
+/// The hint against a call of an undefined function, by its name and its arguments: that functions have no path, that the name
+/// is one of a method, the nearest function or method, or a list of all.
 pub fn hint_for_call(
     alloc: Global,
     text: &str,
@@ -63,7 +63,7 @@ pub fn hint_for_call(
     }
 }
 
-/// How a method is called on these arguments.
+/// The way to call a method on these arguments.
 fn hint_for_method(
     alloc: Global,
     text: &str,
@@ -84,7 +84,7 @@ fn hint_for_method(
     }
 }
 
-/// What looks into a text as a function of this name does elsewhere.
+/// The way to look into a text that a function of this name gives in other languages.
 fn hint_for_text(
     alloc: Global,
     text: &str,
@@ -119,7 +119,7 @@ pub fn is_plain(text: &str) -> bool {
     !text.contains('"') && !text.contains('\\') && !text.contains('*')
 }
 
-/// The name of a function or a method that is nearest.
+/// The nearest name of a function or a method.
 fn nearest_name(alloc: Global, unknown: &str) -> Result<Option<&'static str>, AllocError> {
     let mut search = Search::new(alloc, unknown)?;
     let mut nearest = None;

@@ -1,13 +1,13 @@
-// Names of types, actions and ids that the schema does not have.
+// Hints against names of types, actions and ids that the schema does not declare.
 use crate::similar::Search;
 use cedar_types::base::{EntityType, EntityUID, ValidatorEntityTypeKind, ValidatorSchema};
 use std::alloc::{AllocError, Global};
 use std::rc::RcStr;
 
-/// How many ids of an enumerated type are listed.
+/// The number of ids of an enumerated type that are listed.
 const MAX_LISTED: usize = 5;
 
-/// The declared type whose name is nearest, in any namespace.
+/// The declared type with the nearest name, in any namespace.
 pub fn hint_for_type(
     alloc: Global,
     schema: &ValidatorSchema,
@@ -30,7 +30,8 @@ pub fn hint_for_type(
     }
 }
 
-/// The declared action whose id is nearest, in any namespace. Where the id has the text of a type in it, what stands behind that.
+/// The declared action with the nearest id, in any namespace. If the id begins with the text of a type, only the rest is
+/// compared.
 pub fn hint_for_action(
     alloc: Global,
     schema: &ValidatorSchema,
@@ -61,7 +62,7 @@ fn id_alone(eid: &str) -> &str {
     }
 }
 
-/// The id of an enumerated type that is nearest, or which ids it has. Of a type with many, the first are compared.
+/// The nearest id of an enumerated type, or a list of its ids. If a type has many, the first are compared.
 pub fn hint_for_id(
     alloc: Global,
     schema: &ValidatorSchema,
@@ -89,7 +90,7 @@ pub fn hint_for_id(
     }
 }
 
-/// The first ids, and how many more there are.
+/// The first ids, and the number of the others.
 fn list_ids(alloc: Global, ids: &[RcStr]) -> Result<String, AllocError> {
     let mut hint = String::from_str(alloc, "there are ")?;
     let mut is_first = true;

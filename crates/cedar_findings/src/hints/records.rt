@@ -1,10 +1,10 @@
-// In which attribute two records differ.
+// Differences of two record types.
 use cedar_types::base::{AttributeType, Attributes, CedarType};
 use std::alloc::{AllocError, Global};
 use std::collections::BTreeSet;
 use std::rc::RcStr;
 
-/// The first attribute in which two record types differ, in words; `None` of other types.
+/// The first attribute in which two record types differ, in words; `None` for other types.
 pub fn difference(
     alloc: Global,
     types: &BTreeSet<CedarType>,

@@ -1,19 +1,19 @@
-// Scopes that no action fits.
+// Hints against scopes that no action fits.
 use cedar_types::base::{
     ActionConstraint, EntityReference, EntityType, EntityUID, PrincipalOrResourceConstraint,
     Template, ValidatorActionId, ValidatorApplySpec, ValidatorSchema,
 };
 use std::alloc::{AllocError, Global};
 
-/// Whether a type is one of a principal or of a resource.
+/// The side of a scope that a type stands on.
 #[derive(Clone, Copy)]
 enum Side {
     Principal,
     Resource,
 }
 
-/// Which side of a scope names a type that no action applies to, or not the one action of the scope; empty where it is another
-/// reason.
+/// The side of a scope that names a type which no action applies to, or not the one action of the scope; empty if the reason is
+/// another.
 pub fn hint_for_scope(
     alloc: Global,
     schema: &ValidatorSchema,
@@ -38,7 +38,7 @@ pub fn hint_for_scope(
     Ok(String::new(alloc))
 }
 
-/// The type that what a constraint admits is of.
+/// The entity type that a constraint admits, if it admits one.
 fn type_of(constraint: &PrincipalOrResourceConstraint) -> Option<&EntityType> {
     match constraint {
         PrincipalOrResourceConstraint::Eq(EntityReference::EUID(uid)) => Some(&uid.entity_type),
@@ -48,7 +48,7 @@ fn type_of(constraint: &PrincipalOrResourceConstraint) -> Option<&EntityType> {
     }
 }
 
-/// Whether this action, or some action where none is named, applies to this type.
+/// Whether this action applies to this type; if none is given, whether some action does.
 fn is_applied_to(
     alloc: Global,
     schema: &ValidatorSchema,
@@ -59,6 +59,7 @@ fn is_applied_to(
     if let Some(action) = action {
         return Ok(match schema.get_action_id(action) {
             Some(declared) => applies_to(declared, side, named),
+            // an undeclared action has an error of its own
             None => true,
         });
     }

@@ -1,4 +1,4 @@
-// Types that are not the wanted ones, or do not agree.
+// Hints against types that are not the expected ones, or do not agree.
 use crate::hints::calls::is_plain;
 use crate::hints::records::difference;
 use crate::parts::{Operation, operation_at, operation_in, part_around, text_at};
@@ -9,7 +9,7 @@ use cedar_types::base::{
 };
 use std::alloc::{AllocError, Global};
 
-/// What may be meant where a part has another type than is expected.
+/// The hint at a part with another type than is expected.
 pub fn hint_for_unexpected(
     alloc: Global,
     policy: &Template,
@@ -31,7 +31,7 @@ pub fn hint_for_unexpected(
     }
 }
 
-/// What may be meant by `has` on a set.
+/// The hint against `has` on a set.
 fn hint_for_has(
     alloc: Global,
     text: &str,
@@ -54,7 +54,7 @@ fn hint_for_one_operand(actual: &CedarType) -> &'static str {
     }
 }
 
-/// What may be meant by an operation on an operand of this type.
+/// The hint against an operation on an operand of this type.
 fn hint_for_operand(
     alloc: Global,
     text: &str,
@@ -91,7 +91,7 @@ fn hint_for_operand(
     }
 }
 
-/// What may be meant by what is no set, where one is expected.
+/// The hint for a type that stands in place of a set.
 fn hint_for_set(actual: &CedarType) -> &'static str {
     if is_set(actual) {
         ""
@@ -108,7 +108,7 @@ fn is_set(actual: &CedarType) -> bool {
     matches!(actual, CedarType::Set(_) | CedarType::AnySet)
 }
 
-/// What looks into a text as `contains` looks into a set.
+/// The way to look into a text, for a `contains` on one.
 fn hint_for_contains(
     alloc: Global,
     text: &str,
@@ -122,7 +122,7 @@ fn hint_for_contains(
     format!(in alloc; "`like` looks into a text: `{base} like \"*{part}*\"`")
 }
 
-/// What may be meant by `in` on what is no entity.
+/// The hint against `in` on a value that is no entity.
 fn hint_for_in(
     alloc: Global,
     text: &str,
@@ -158,7 +158,7 @@ fn is_value(expr: &Expr) -> bool {
     }
 }
 
-/// What may be meant by a text that is compared: a time or a number; else an empty text.
+/// The time or the number that may be meant by a text in a comparison, or an empty text.
 fn hint_for_text(alloc: Global, literal: &str) -> Result<String, AllocError> {
     for function in [Constructor::Datetime, Constructor::Duration] {
         if function.reads(literal) {
@@ -177,7 +177,7 @@ fn hint_for_text(alloc: Global, literal: &str) -> Result<String, AllocError> {
     )
 }
 
-/// What may be meant by `<` or `<=` on what these do not compare.
+/// The hint against `<` or `<=` on values that they do not compare.
 fn hint_for_comparison(
     alloc: Global,
     operand: &Expr,
@@ -204,7 +204,7 @@ fn hint_for_comparison(
     }
 }
 
-/// Which types have to agree, and where they do not.
+/// The types that must agree, and their difference.
 pub fn hint_for_incompatible(
     alloc: Global,
     policy: &Template,
@@ -222,7 +222,7 @@ pub fn hint_for_incompatible(
     Ok(hint)
 }
 
-/// Which types have to agree.
+/// The rule by which types must agree.
 fn wanted_in(context: LubContext) -> &'static str {
     match context {
         LubContext::Conditional => "both branches of an `if` have to be of one type",
@@ -234,7 +234,7 @@ fn wanted_in(context: LubContext) -> &'static str {
     }
 }
 
-/// The entity that a text may stand for, where a text is compared with an entity.
+/// The entity that may be meant by a text, if a text is compared with an entity.
 fn entity_meant(
     alloc: Global,
     policy: &Template,

@@ -1,4 +1,4 @@
-// What is answered of texts that conform: each value of an entity and of a request.
+// Answers on texts that conform: each value of an entity and of a request.
 use crate::data_tests::shown::test_schema;
 use cedar_data::{check_entities_text, check_entry_text, check_request_text};
 use cedar_reading::uid_alone;
@@ -6,7 +6,7 @@ use std::alloc::{AllocError, Global};
 use std::process::Abort;
 use std::test::Fail;
 
-/// A user with a value of each form, and the group that it is in.
+/// A user with a value of each form, and the user's group.
 const ENTITIES: &str = r#"[
   {"uid": {"type": "User", "id": "a"},
    "attrs": {"name": "\u00e9\n\"", "age": -9223372036854775808, "boss": {"type": "User", "id": "b"},
@@ -42,7 +42,7 @@ fn entities_as_they_stand(rt: HostRuntime) -> Result<(), Fail> {
     Ok(())
 }
 
-/// What is stored of an entity of a text.
+/// The stored parts of an entity of a text.
 fn stored_shown(alloc: Global, text: &str, id: &str) -> Result<String, AllocError> {
     let schema = test_schema(alloc);
     let checked = check_entities_text(alloc, &schema, text);
@@ -68,7 +68,7 @@ fn stored_shown(alloc: Global, text: &str, id: &str) -> Result<String, AllocErro
     Ok(shown)
 }
 
-/// Each part of a request is that of its key.
+/// Each part of a request is the value of its key.
 #[test]
 fn a_request_as_it_stands(rt: HostRuntime) -> Result<(), Fail> {
     let text =
@@ -80,7 +80,7 @@ fn a_request_as_it_stands(rt: HostRuntime) -> Result<(), Fail> {
     Ok(())
 }
 
-/// The parts of the request that a text gives.
+/// The parts of the request in a text.
 fn request_parts_shown(alloc: Global, text: &str) -> Result<String, AllocError> {
     let schema = test_schema(alloc);
     let Ok(checked) = check_request_text(alloc, &schema, text) else {
@@ -97,7 +97,7 @@ fn request_parts_shown(alloc: Global, text: &str) -> Result<String, AllocError> 
     Ok(shown)
 }
 
-/// An entity that stands alone has its own attributes.
+/// An entity in a text of its own has its own attributes.
 #[test]
 fn an_entry_as_it_stands(rt: HostRuntime) -> Result<(), Fail> {
     let text =
@@ -107,7 +107,7 @@ fn an_entry_as_it_stands(rt: HostRuntime) -> Result<(), Fail> {
     Ok(())
 }
 
-/// The id and the attributes of the entity that a text gives.
+/// The id and the attributes of the entity in a text.
 fn attributes_shown(alloc: Global, text: &str) -> Result<String, AllocError> {
     let schema = test_schema(alloc);
     let Ok(checked) = check_entry_text(alloc, &schema, text) else {

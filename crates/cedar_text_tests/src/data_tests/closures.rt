@@ -1,4 +1,4 @@
-// What groups are in by way of others: graphs in which entities are reached on several ways.
+// Ancestors of groups by way of others: graphs in which several ways lead to an entity.
 use crate::data_tests::shown::ancestors_shown;
 use std::alloc::{AllocError, Global};
 use std::test::Fail;
@@ -23,11 +23,11 @@ fn groups(alloc: Global, edges: &str) -> Result<String, AllocError> {
     Ok(text)
 }
 
-/// The ids are shown in their order, whatever the order of the list and of parents, and each once.
+/// Ancestors are shown in the order of their ids, each once, whatever the order of the list and of the parents.
 #[test]
 fn ways_through_graphs(rt: HostRuntime) -> Result<(), Fail> {
     let cases = [
-        // A parent that another parent is in.
+        // A parent that is in another parent.
         ("a: b c; b: c; c: d", "a", "b c d"),
         ("c: d; b: c; a: c b d b", "a", "b c d"),
         // Two ways to one group, of one and of three steps.
@@ -40,7 +40,7 @@ fn ways_through_graphs(rt: HostRuntime) -> Result<(), Fail> {
             "b c d e g h i",
         ),
         ("a: b g; b: c; c: d; d: e; g: h; h: d i", "g", "d e h i"),
-        // Layers of two, each in both above.
+        // Layers of two, each in both groups of the layer above.
         (
             "a: c d; b: c d; c: e f; d: e f; e: g h; f: g h",
             "a",
@@ -52,7 +52,7 @@ fn ways_through_graphs(rt: HostRuntime) -> Result<(), Fail> {
             "c d e f g h",
         ),
         ("a: c d; b: c d; c: e f; d: e f; e: g h; f: g h", "f", "g h"),
-        // Each in all before.
+        // Each group in all before.
         ("a:; b: a; c: a b; d: a b c; e: a b c d", "e", "a b c d"),
         ("a:; b: a; c: a b; d: a b c; e: a b c d", "a", ""),
     ];

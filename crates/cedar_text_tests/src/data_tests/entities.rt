@@ -1,4 +1,4 @@
-// Lists of entities, and the mistakes that they have.
+// Lists of entities, and their mistakes.
 use crate::data_tests::shown::check_entities;
 use crate::frames::Frame;
 use std::test::Fail;
@@ -6,7 +6,7 @@ use std::test::Fail;
 /// A list of one entity.
 const ALONE: Frame<'_> = ("[", "]");
 
-/// A user, whose name is there, with other attributes.
+/// A user with a name and further attributes.
 const OF_A_USER: Frame<'_> = (
     r#"[{"uid": {"type": "User", "id": "a"}, "parents": [], "attrs": {"name": "A", "#,
     "}}]",

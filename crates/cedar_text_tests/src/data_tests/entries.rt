@@ -1,9 +1,9 @@
-// Entities that stand alone, each in a text of its own.
+// Entities in texts of their own.
 use crate::data_tests::shown::entry_shown;
 use std::process::Abort;
 use std::test::Fail;
 
-/// The parents are the ancestors, and nothing is asked of other entities.
+/// The parents are all ancestors, because other entities are not looked up.
 #[test]
 fn an_entity_alone(rt: HostRuntime) -> Result<(), Fail> {
     let cases = [

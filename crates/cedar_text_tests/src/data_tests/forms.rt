@@ -3,7 +3,7 @@ use crate::data_tests::shown::check_entities;
 use crate::frames::Frame;
 use std::test::Fail;
 
-/// Nothing but the text.
+/// An empty frame.
 const WHOLE: Frame<'_> = ("", "");
 
 /// A user with one attribute more than a name.
@@ -62,7 +62,7 @@ const OTHER_SHAPES: [(&str, &str); 11] = [
     ),
 ];
 
-/// Values of `boss` that mean nothing, or not what they seem to.
+/// Values of `boss` that have no meaning, or another one than they seem to have.
 const OTHER_VALUES: [(&str, &str); 8] = [
     (
         r#"{"__entity": {"type": "User", "id": "a"}, "x": 1}"#,

@@ -1,11 +1,11 @@
-// What entities are in.
+// Parents and ancestors of entities.
 use crate::data_tests::shown::{ancestors_shown, entities_shown};
 use std::alloc::{AllocError, Global};
 use std::process::Abort;
 use std::test::Fail;
 
-/// An entity of a list is written as its type, its id, and the types and ids of its parents. Each list has the mistakes that
-/// stand beside it.
+/// Checks that each list has the mistakes beside it. An entity of a list is given by its type, its id, and the types and ids of
+/// its parents.
 fn check(rt: &impl Abort, alloc: Global, cases: &[(&[&[(&str, &str)]], &str)]) -> Result<(), Fail> {
     for (entities, wanted) in cases {
         let mut text = String::from_str(alloc, "[")?;
@@ -57,7 +57,7 @@ const GOOD_PARENTS: [(&[&[(&str, &str)]], &str); 3] = [
     (&[&[("Group", "a"), ("Group", "b"), ("Group", "b")]], ""),
 ];
 
-/// Circles, alone and beside others.
+/// Circles by themselves and beside other parents.
 const CIRCLES: [(&[&[(&str, &str)]], &str); 4] = [
     (
         &[&[("Group", "a"), ("Group", "a")]],
@@ -88,7 +88,7 @@ const CIRCLES: [(&[&[(&str, &str)]], &str); 4] = [
     ),
 ];
 
-/// Parents that there may not be, and an entity that is listed twice.
+/// Parents that the schema does not allow, and an entity that is listed twice.
 const OTHER_PARENTS: [(&[&[(&str, &str)]], &str); 4] = [
     (
         &[&[("Org", "o"), ("Group", "a")]],
@@ -119,7 +119,7 @@ fn parents(rt: HostRuntime) -> Result<(), Fail> {
     check(&rt, rt.alloc(), &OTHER_PARENTS)
 }
 
-/// Of a hundred and one mistakes a hundred are shown.
+/// A hundred of a hundred and one mistakes are shown.
 #[test]
 fn many_mistakes(rt: HostRuntime) -> Result<(), Fail> {
     let alloc = rt.alloc();
@@ -138,7 +138,7 @@ fn many_mistakes(rt: HostRuntime) -> Result<(), Fail> {
     Ok(())
 }
 
-/// What an entity is in by way of others is stored with it, and so are the actions that are declared.
+/// The ancestors of an entity by way of others are stored with it, and so are declared actions.
 #[test]
 fn stored_ancestors(rt: HostRuntime) -> Result<(), Fail> {
     let text = r#"[

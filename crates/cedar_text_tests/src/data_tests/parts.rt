@@ -1,9 +1,10 @@
-// Entities that are read one after another: a `null` is a mistake of its own entity, and a fault of JSON one of the whole text.
+// Entities that are read one after another: a `null` is a mistake of its own entity, and a fault of JSON is one of the whole
+// text.
 use crate::data_tests::shown::{check_entities, entry_shown};
 use crate::frames::Frame;
 use std::test::Fail;
 
-/// What stands around the attributes of a user, between two entities of which the last has a mistake.
+/// The text around the attributes of a user, between two entities of which the last has a mistake.
 const BETWEEN: Frame<'_> = (
     r#"[{"uid": {"type": "Org", "id": "o"}, "attrs": {}, "parents": []}, {"uid": {"type": "User", "id": "a"}, "parents": [], "attrs": {"name": "A", "#,
     r#"}}, {"uid": {"type": "Org", "id": "p"}, "attrs": {"x": 1}, "parents": []}]"#,
@@ -48,7 +49,7 @@ fn ends(rt: HostRuntime) -> Result<(), Fail> {
     check_entities(&rt, rt.alloc(), ("", ""), &ENDS)
 }
 
-/// A mistake of an entity alone stands in its own part of the text, which is read again for it.
+/// A mistake in the text of one entity stands in its own part of the text, which is read again for it.
 #[test]
 fn an_entity_behind_blanks(rt: HostRuntime) -> Result<(), Fail> {
     let text = r#"  {"uid": {"type": "Org", "id": "p"}, "attrs": {"x": 1}, "parents": []} "#;

@@ -1,4 +1,4 @@
-// Requests, and the mistakes that they have.
+// Requests, and their mistakes.
 use crate::data_tests::shown::request_shown;
 use std::test::Fail;
 

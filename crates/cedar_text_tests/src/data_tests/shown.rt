@@ -1,4 +1,4 @@
-// What is found in texts, as lines.
+// Findings in texts of data, as lines.
 use crate::frames::Frame;
 use cedar_data::{DataError, Faults, check_entities_text, check_entry_text, check_request_text};
 use cedar_reading::{schema, uid_alone};
@@ -25,7 +25,7 @@ action view in [read] appliesTo {
 };
 ";
 
-/// The schema, or an empty one where it cannot be read, by which nothing conforms.
+/// The schema; an empty one if it cannot be read, because then nothing conforms.
 pub fn test_schema(alloc: Global) -> ValidatorSchema {
     match schema(alloc, SCHEMA) {
         Ok(schema) => schema,
@@ -33,7 +33,7 @@ pub fn test_schema(alloc: Global) -> ValidatorSchema {
     }
 }
 
-/// The mistakes of entities, a line for each: the part of the text that has it, and what is wrong.
+/// The mistakes of entities, a line for each: the faulty part of the text, and the words.
 pub fn entities_shown(alloc: Global, text: &str) -> Result<String, AllocError> {
     let schema = test_schema(alloc);
     match check_entities_text(alloc, &schema, text) {
@@ -42,7 +42,7 @@ pub fn entities_shown(alloc: Global, text: &str) -> Result<String, AllocError> {
     }
 }
 
-/// Each part has, in this frame, the mistakes that stand beside it.
+/// Checks that each part has, in this frame, the mistakes beside it.
 pub fn check_entities(
     rt: &impl Abort,
     alloc: Global,
@@ -58,7 +58,7 @@ pub fn check_entities(
     Ok(())
 }
 
-/// The same of a request.
+/// The mistakes of a request, a line for each.
 pub fn request_shown(alloc: Global, text: &str) -> Result<String, AllocError> {
     let schema = test_schema(alloc);
     match check_request_text(alloc, &schema, text) {
@@ -74,7 +74,7 @@ fn error_shown(alloc: Global, error: DataError) -> Result<String, AllocError> {
     }
 }
 
-/// A line for each mistake. What conforms has none, and the reverse.
+/// A line for each mistake, or one that tells a contradiction: data conforms exactly if it has no mistake.
 fn faults_shown(
     alloc: Global,
     text: &str,
@@ -95,7 +95,7 @@ fn faults_shown(
     Ok(shown)
 }
 
-/// The ancestors of an entity that is stored of a text.
+/// The stored ancestors of an entity of a text.
 pub fn ancestors_shown(alloc: Global, text: &str, id: &str) -> Result<String, AllocError> {
     let schema = test_schema(alloc);
     let checked = check_entities_text(alloc, &schema, text);
@@ -115,7 +115,7 @@ pub fn ancestors_shown(alloc: Global, text: &str, id: &str) -> Result<String, Al
     Ok(shown)
 }
 
-/// An entity that stands alone, with its ancestors, or its mistakes.
+/// The entity in a text of its own with its ancestors, or its mistakes.
 pub fn entry_shown(alloc: Global, text: &str) -> Result<String, AllocError> {
     let schema = test_schema(alloc);
     let checked = match check_entry_text(alloc, &schema, text) {

@@ -1,4 +1,4 @@
-// What the words of a command line ask for.
+// Arguments in the words of a command line.
 use crate::findings_tests::cases::check;
 use cedar_findings::arguments::{Arguments, Asked, read_arguments};
 use cedar_findings::formats::Format;
@@ -8,7 +8,7 @@ use std::alloc::{AllocError, Global};
 use std::test::Fail;
 
 /// Command lines, and what they ask for or what is wrong with them.
-const LINES: [(&str, &str); 53] = [
+const LINES: [(&str, &str); 54] = [
     (
         "--schema s p --schema=t q",
         "strict, no level, lines: s, t, p, q, 2 schemas",
@@ -94,6 +94,10 @@ const LINES: [(&str, &str); 53] = [
         "`--level` takes a number from 0 to 4294967295",
     ),
     (
+        "--level -1 s p",
+        "`--level` takes a number from 0 to 4294967295",
+    ),
+    (
         "--level 1 --mode partial s p",
         "`--level` is for the modes `strict` and `permissive`",
     ),
@@ -127,7 +131,7 @@ const LINES: [(&str, &str); 53] = [
     ("--entity e s p", "there is no option `--entity`"),
 ];
 
-/// What a command line asks for, in words.
+/// The arguments of a command line, in words.
 fn show_arguments(alloc: Global, line: &str) -> Result<String, Fail> {
     let mut words = Vec::new(alloc);
     for word in line.split(' ') {

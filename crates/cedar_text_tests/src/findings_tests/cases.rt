@@ -1,9 +1,9 @@
-// Tables of cases: texts, and what is shown of them.
+// Tables of cases: texts with their answers.
 use std::alloc::Global;
 use std::process::Abort;
 use std::test::Fail;
 
-/// Each text gives what stands beside it.
+/// Checks that each text gives the answer beside it.
 pub fn check<F: Fn(Global, &str) -> Result<String, Fail>>(
     rt: &(impl Abort + AllocGlobal),
     answer: F,

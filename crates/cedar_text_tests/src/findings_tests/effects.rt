@@ -1,4 +1,4 @@
-// What the policies of a text do.
+// Effects of the policies of a text.
 use cedar_reading::{Policies, ReadError};
 use std::alloc::Global;
 use std::test::Fail;

@@ -3,8 +3,8 @@ use cedar_findings::escapes::{Shown, ShownId, is_hidden};
 use cedar_findings::json::JsonWriter;
 use std::test::Fail;
 
-/// The first and the last of each run of characters that Unicode's tables have as ones that are not shown by default, but for
-/// those without a meaning so far; and some more that show nothing.
+/// The first and the last of each run of characters that Unicode's tables list as not shown by default, except for unassigned
+/// ones; and some more that show nothing.
 const HIDDEN: [(u32, u32); 24] = [
     (0x0, 0x1f),
     (0x7f, 0x9f),

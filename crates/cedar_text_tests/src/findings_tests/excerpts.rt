@@ -1,9 +1,10 @@
 // The line of a place, and the carets below it.
 use cedar_findings::excerpts::Excerpt;
 use cedar_types::base::Loc;
+use std::alloc::{AllocError, Global};
 use std::test::Fail;
 
-/// Texts, places in them, and what is shown of the seventh line.
+/// Texts, places in them, and the excerpt of the seventh line.
 const EXCERPTS: [(&str, Loc, &str); 9] = [
     (
         "a b c",
@@ -40,7 +41,8 @@ const EXCERPTS: [(&str, Loc, &str); 9] = [
 #[test]
 fn excerpts(rt: HostRuntime) -> Result<(), Fail> {
     for (text, place, wanted) in &EXCERPTS {
-        let shown = format!(in rt.alloc(); "{}", Excerpt::new(text, *place, 7))?;
+        let mut shown = String::new(rt.alloc());
+        Excerpt::new(text, *place, 7).push_to(&mut shown)?;
         assert_eq!(rt; shown.as_str(), *wanted, "for {text}");
     }
     Ok(())
@@ -57,8 +59,82 @@ fn the_number_of_a_line(rt: HostRuntime) -> Result<(), Fail> {
         (1000, "  1000 | a\n       | ^\n"),
     ] {
         let place = Loc { start: 0, end: 1 };
-        let shown = format!(in rt.alloc(); "{}", Excerpt::new("a", place, number))?;
+        let mut shown = String::new(rt.alloc());
+        Excerpt::new("a", place, number).push_to(&mut shown)?;
         assert_eq!(rt; shown.as_str(), wanted);
+    }
+    Ok(())
+}
+
+/// Wide texts by their pieces, places in them, and what is shown below the number: at most 200 characters before a place, in it
+/// and behind it.
+const WIDE: [(&[(&str, usize)], Loc, &[(&str, usize)]); 3] = [
+    (
+        &[("a", 150), ("b", 100)],
+        Loc {
+            start: 150,
+            end: 250,
+        },
+        &[
+            ("a", 150),
+            ("b", 100),
+            ("\n    | ", 1),
+            (" ", 150),
+            ("^", 100),
+        ],
+    ),
+    (
+        &[("a", 201), ("b", 201), ("c", 1)],
+        Loc {
+            start: 201,
+            end: 402,
+        },
+        &[
+            ("a", 200),
+            ("b", 200),
+            ("\n    | ", 1),
+            (" ", 200),
+            ("^", 200),
+        ],
+    ),
+    (
+        &[("\u{e9}", 201), ("b", 1), ("\u{e9}", 201)],
+        Loc {
+            start: 402,
+            end: 403,
+        },
+        &[
+            ("\u{e9}", 200),
+            ("b", 1),
+            ("\u{e9}", 200),
+            ("\n    | ", 1),
+            (" ", 200),
+            ("^", 1),
+        ],
+    ),
+];
+
+/// The text of these pieces, each repeated as its number says.
+fn repeated(alloc: Global, pieces: &[(&str, usize)]) -> Result<String, AllocError> {
+    let mut text = String::new(alloc);
+    for (piece, times) in pieces {
+        for _ in 0..*times {
+            text.push_str(piece)?;
+        }
+    }
+    Ok(text)
+}
+
+#[test]
+fn wide_places(rt: HostRuntime) -> Result<(), Fail> {
+    let alloc = rt.alloc();
+    for (pieces, place, below) in &WIDE {
+        let text = repeated(alloc, pieces)?;
+        let below = repeated(alloc, below)?;
+        let mut shown = String::new(alloc);
+        Excerpt::new(text.as_str(), *place, 7).push_to(&mut shown)?;
+        let wanted = format!(in alloc; "  7 | {below}\n")?;
+        assert_eq!(rt; shown.as_str(), wanted.as_str());
     }
     Ok(())
 }

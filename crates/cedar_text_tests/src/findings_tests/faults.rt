@@ -1,11 +1,11 @@
-// Policies with a fault: which it is, and where.
+// Faults of policies, with their places.
 use crate::findings_tests::cases::check;
 use cedar_findings::faults::{TextFault, Written, read_fault};
 use cedar_reading::{Policies, Position};
 use std::alloc::{AllocError, Global};
 use std::test::Fail;
 
-/// What stands before a condition.
+/// The text before a condition.
 const BEFORE: &str = "permit(principal, action, resource)\nwhen { ";
 
 /// Conditions behind `BEFORE`, with the rest of the text.
@@ -188,8 +188,9 @@ fn policies(rt: HostRuntime) -> Result<(), Fail> {
     check(&rt, fault_of_policy, &POLICIES)
 }
 
-/// What is written so often, what stands in the middle, what is written as often behind it, and the fault. 800 brackets and
-/// operators are begun at most, so with an operator in each 400 parentheses are; and 800 nodes stand inside each other.
+/// A text and its number of repetitions, the text in the middle, the text that closes each repetition, and the fault. At most
+/// 800 brackets and operators may be begun, so 400 parentheses with an operator in each; and 800 nodes may stand inside each
+/// other.
 const NESTED: [(&str, usize, &str, &str, &str); 8] = [
     ("(", 799, "true", ")", "no fault"),
     ("(", 800, "true", ")", TOO_DEEP_AT_TRUE),

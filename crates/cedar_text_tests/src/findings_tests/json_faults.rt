@@ -1,4 +1,4 @@
-// Texts of JSON with a fault: which it is, and where.
+// Faults of texts of JSON, with their places.
 use cedar_findings::faults::{TextFault, Written};
 use cedar_findings::json_faults::form_fault;
 use cedar_json::{FormError, Policies, schema_text};
@@ -96,7 +96,7 @@ fn of_schemas(rt: HostRuntime) -> Result<(), Fail> {
     Ok(())
 }
 
-/// The place of a fault, up to the column behind it, and what is wrong.
+/// The place of a fault, up to the column behind it, and the words.
 fn describe(alloc: Global, written: Written, json: &str, error: FormError) -> Result<String, Fail> {
     let TextFault { place, text } = form_fault(alloc, written, json, error)?;
     let Loc { start, end } = place;

@@ -1,4 +1,4 @@
-// JSON as the writer writes it, by the grammar of RFC 8259.
+// JSON of the writer, by the grammar of RFC 8259.
 use cedar_findings::json::JsonWriter;
 use std::alloc::{AllocError, Global};
 use std::test::Fail;
@@ -57,8 +57,8 @@ fn lines_between_values(rt: HostRuntime) -> Result<(), Fail> {
     Ok(())
 }
 
-/// Texts, and each between its quotes: `"`, `\` and control characters may not stand there as they are, and no escape is longer
-/// than one unit of UTF-16.
+/// Texts, and each between its quotes: `"`, `\` and control characters must be escaped there, and no escape is longer than one
+/// unit of UTF-16.
 const TEXTS: [(&str, &str); 8] = [
     ("", r#""""#),
     (" az09~!#[]{}:,/'`", r#"" az09~!#[]{}:,/'`""#),

@@ -13,12 +13,12 @@ const CONDITIONS: [(&str, &str); 15] = [
         "context.a == \"мир\" || context.a == \"naïve\" || context.a == \"Ωμέγα\"",
         "",
     ),
-    // Japanese, Korean and Bopomofo have Chinese characters too
+    // Japanese, Korean and Bopomofo have Chinese characters too.
     (
         "context.a == \"東京タワーへ\" || context.a == \"大韓민국\" || context.a == \"注ㄓㄨ\"",
         "",
     ),
-    // digits and marks are of any script
+    // digits and marks belong to any script
     ("context.a == \"мир-2_0, (x)\"", "text several;"),
     ("context.a == \"мир-2_0, ()\"", ""),
     ("context.a == \"\u{430}dmin\"", "text several;"),
@@ -30,7 +30,7 @@ const CONDITIONS: [(&str, &str); 15] = [
         "attribute several;attribute several;",
     ),
     ("resource is Us\u{435}r", "name several;"),
-    // all of its letters look like Latin ones
+    // all letters look like Latin ones
     ("resource in User::\"\u{440}\u{43e}\u{440}\"", "id latin;"),
     ("context.\u{430}\u{441}\u{435} == 1", "attribute latin;"),
     (
@@ -56,7 +56,7 @@ fn show_warnings(alloc: Global, condition: &str) -> Result<String, Fail> {
     Ok(got)
 }
 
-/// Adds the code of a warning, where it is not that of look-alikes.
+/// Adds the code of a warning, if it is not that of look-alikes.
 fn push_other_code(got: &mut String, code: &str) -> Result<(), Fail> {
     if code != "look-alike" {
         got.push_str(code)?;

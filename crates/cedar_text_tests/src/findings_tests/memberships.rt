@@ -1,4 +1,4 @@
-// What is in what, over any number of steps.
+// Memberships over any number of steps.
 use crate::findings_tests::cases::check;
 use cedar_reading::schema_declarations;
 use cedar_types::base::EntityUID;
@@ -6,7 +6,7 @@ use std::alloc::Global;
 use std::collections::BTreeSet;
 use std::test::Fail;
 
-/// Schemas, and of each type and each action what is in it.
+/// Schemas, with the descendants of each type and each action.
 const SCHEMAS: [(&str, &str); 8] = [
     ("entity A;", "A:"),
     ("entity A in A;", "A: A"),
@@ -36,7 +36,7 @@ const SCHEMAS: [(&str, &str); 8] = [
     ),
 ];
 
-/// What is in each type and each action of a schema.
+/// The descendants of each type and each action of a schema.
 fn show_descendants(alloc: Global, text: &str) -> Result<String, Fail> {
     let declared = schema_declarations(alloc, text)?;
     let mut got = String::new(alloc);

@@ -4,7 +4,7 @@ use cedar_reading::{name_alone, uid_alone};
 use std::alloc::Global;
 use std::test::Fail;
 
-/// The name that a text is, as it is shown; `-` where it is none.
+/// The name in a text, as it is shown; `-` if the text is none.
 fn show_name(alloc: Global, text: &str) -> Result<String, Fail> {
     match name_alone(alloc, text) {
         Ok(name) => Ok(format!(in alloc; "{name}")?),
@@ -12,7 +12,7 @@ fn show_name(alloc: Global, text: &str) -> Result<String, Fail> {
     }
 }
 
-/// The id that a text is, as it is shown; `-` where it is none.
+/// The id in a text, as it is shown; `-` if the text is none.
 fn show_id(alloc: Global, text: &str) -> Result<String, Fail> {
     match uid_alone(alloc, text) {
         Ok(uid) => Ok(format!(in alloc; "{uid}")?),

@@ -1,4 +1,4 @@
-// The objects of JSON, in which nothing that others wrote ends a text or a line.
+// Objects of JSON, in which no text by another writer ends a text or a line.
 use cedar_findings::codes::Code;
 use cedar_findings::data_findings::DataFinding;
 use cedar_findings::findings::{Finding, Requirement, Severity, Verdict};
@@ -119,7 +119,7 @@ fn finding(alloc: Global, environments: Vec<String>) -> Result<Finding, AllocErr
     })
 }
 
-/// The objects of a mistake in data, and of the counts where data is checked.
+/// The objects of a mistake in data, and of the counts if data is checked.
 const DATA: &str = r#"
 {"kind":"data","file":"a\"","line":3,"column":7,"end_line":4,"end_column":1,"code":"data-type","text":"a \"b\"","hint":"c"}
 {"kind":"summary","policies":0,"accepted":0,"refused":0,"warnings":0,"faults":0,"entities":1,"data_errors":2}

@@ -1,4 +1,4 @@
-// What an output shows, in each format, and what it counts.
+// Texts and counts of an output, in each format.
 use cedar_findings::arguments::Task;
 use cedar_findings::changes::{Change, Comparison};
 use cedar_findings::colours::Colours;
@@ -8,6 +8,7 @@ use cedar_findings::outputs::Output;
 use cedar_findings::sources::{Content, Source};
 use cedar_types::base::Loc;
 use std::alloc::{AllocError, Global};
+use std::env::VarError;
 use std::io;
 use std::io::ErrorKind;
 use std::test::Fail;
@@ -18,7 +19,7 @@ const SOURCE: Source<'static> = Source {
     text: "abc",
 };
 
-/// An output in the format of this name, which has begun; `None` where there is no such format.
+/// An output in the format of this name, which has begun; `None` if there is no such format.
 fn begun(alloc: Global, colours: Colours, name: &str) -> Result<Option<Output>, AllocError> {
     let mut output = Output::new(alloc, colours);
     let Some(format) = Format::by_name(name) else {
@@ -47,7 +48,7 @@ fn faults(rt: HostRuntime) -> Result<(), Fail> {
              f: fault: 100 faults, so the rest of the file is not read\n\
              policies: 0, accepted: 0, refused: 0, warnings: 0, faults: 2\n",
         ),
-        // a kind has its colour where the line is about the file that is meant
+        // a kind has its colour only on a line about the file that is meant
         (
             Colours::Terminal,
             "f:1:1: \x1b[1;31mfault\x1b[0m: why\n  1 | abc\n    | ^^^\n\
@@ -69,6 +70,28 @@ fn faults(rt: HostRuntime) -> Result<(), Fail> {
     Ok(())
 }
 
+/// Lines are painted on a terminal alone, and not where the environment has a `NO_COLOR` that says something.
+#[test]
+fn colours(rt: HostRuntime) -> Result<(), Fail> {
+    let alloc = rt.alloc();
+    for (is_terminal, no_color, wanted) in [
+        (true, Err(VarError::NotPresent), Colours::Terminal),
+        (true, Ok(""), Colours::Terminal),
+        (true, Ok("1"), Colours::None),
+        (true, Err(VarError::NotUnicode), Colours::None),
+        (true, Err(VarError::OutOfMemory), Colours::None),
+        (false, Err(VarError::NotPresent), Colours::None),
+        (false, Ok(""), Colours::None),
+    ] {
+        let variable = match no_color {
+            Ok(text) => Ok(String::from_str(alloc, text)?),
+            Err(error) => Err(error),
+        };
+        assert_eq!(rt; Colours::of_output(is_terminal, variable), wanted);
+    }
+    Ok(())
+}
+
 /// What was written is not shown again.
 #[test]
 fn parts(rt: HostRuntime) -> Result<(), Fail> {
@@ -83,7 +106,8 @@ fn parts(rt: HostRuntime) -> Result<(), Fail> {
     Ok(())
 }
 
-/// Quiet lines and objects have no end, and SARIF is one object that has to end. Nor has a comparison.
+/// Quiet output in lines or objects has no end, neither of verdicts nor of a comparison. SARIF always ends, because it is one
+/// object.
 #[test]
 fn quiet_ends(rt: HostRuntime) -> Result<(), Fail> {
     let alloc = rt.alloc();
@@ -110,7 +134,7 @@ fn quiet_ends(rt: HostRuntime) -> Result<(), Fail> {
     Ok(())
 }
 
-/// Nothing that came or went, of a policy that is worse off, or is not.
+/// A comparison without findings, of a policy that is worse off, or is not.
 fn comparison<'a>(alloc: Global, is_worse: bool) -> Result<Comparison<'a, 'a>, AllocError> {
     Ok(Comparison {
         is_worse,
@@ -137,7 +161,7 @@ fn changes(rt: HostRuntime) -> Result<(), Fail> {
     Ok(())
 }
 
-/// A fault is worse than a policy that is worse off.
+/// A fault counts more than a policy that is worse off.
 #[test]
 fn statuses(rt: HostRuntime) -> Result<(), Fail> {
     let alloc = rt.alloc();
@@ -151,7 +175,7 @@ fn statuses(rt: HostRuntime) -> Result<(), Fail> {
     Ok(())
 }
 
-/// The text of a file, or why it cannot be had.
+/// The text of a file, or the reason why it cannot be read.
 #[test]
 fn texts(rt: HostRuntime) -> Result<(), Fail> {
     let alloc = rt.alloc();
@@ -168,7 +192,7 @@ fn texts(rt: HostRuntime) -> Result<(), Fail> {
     assert!(rt; output.text_of(alloc, "g", Err(gone))?.is_none());
     let wanted = "f:1:1: fault: why\n  1 | abc\n    | ^^^\ng: fault: cannot be read: ";
     assert!(rt; output.shown().starts_with(wanted), "{}", output.shown());
-    // who reads the file counts
+    // the reader of the file counts the fault
     assert_eq!(rt; output.totals.faults, 0);
     Ok(())
 }

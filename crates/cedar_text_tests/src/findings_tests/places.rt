@@ -4,7 +4,7 @@ use cedar_reading::Position;
 use std::alloc::{AllocError, Global};
 use std::test::Fail;
 
-/// How many lines the text has.
+/// The number of lines of the text.
 const LINES: usize = 3000;
 
 /// Lines of seven bytes and six characters.
@@ -16,7 +16,7 @@ fn text(alloc: Global) -> Result<String, AllocError> {
     Ok(text)
 }
 
-/// Where the last character but one of a line stands, the first of which has the number 0.
+/// The last character but one of a line, with its position. The first line has the number 0.
 fn in_line(number: usize) -> (usize, Position) {
     let at = number.saturating_mul(7).saturating_add(5);
     let line = number.saturating_add(1);

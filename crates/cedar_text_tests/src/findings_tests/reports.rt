@@ -1,4 +1,4 @@
-// A policy with more findings than are shown.
+// Reports of a policy with more findings than are shown.
 use cedar_findings::codes::Code;
 use cedar_findings::findings::{Finding, Requirement, Verdict};
 use cedar_findings::formats::Format;
@@ -12,7 +12,7 @@ use std::test::Fail;
 
 const TEXT: &str = "\npermit(principal, action, resource);";
 
-/// How many findings are shown and how many more there are, the format, how many lines that gives, and the last.
+/// The number of shown findings and of the others, the format, the number of lines, and the last line.
 const CASES: [(usize, usize, &str, usize, &str); 7] = [
     (
         100,
@@ -64,7 +64,7 @@ fn findings_and_how_many_more(rt: HostRuntime) -> Result<(), Fail> {
     Ok(())
 }
 
-/// What is shown of a policy with so many findings, and so many more, in the format of this name.
+/// The report of a policy with `count` findings and `others` more, in the format of this name.
 fn describe(alloc: Global, count: usize, others: usize, name: &str) -> Result<String, Fail> {
     let Some(format) = Format::by_name(name) else {
         return Ok(String::new(alloc));
@@ -95,7 +95,7 @@ fn describe(alloc: Global, count: usize, others: usize, name: &str) -> Result<St
     Ok(report.policy_shown(alloc, &policy, &verdict)?)
 }
 
-/// What each format writes of no file, with a schema and without one: SARIF always begins and ends.
+/// The output of each format without a file, with a schema and without one: SARIF always begins and ends.
 #[test]
 fn nothing_found(rt: HostRuntime) -> Result<(), Fail> {
     let alloc = rt.alloc();

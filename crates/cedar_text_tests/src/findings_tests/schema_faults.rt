@@ -1,4 +1,4 @@
-// Schemas with faults: the first of each, and all at once.
+// Faults of schemas: the first of each schema, and all at once.
 use crate::findings_tests::cases::check;
 use crate::findings_tests::faults::describe;
 use cedar_findings::faults::{TextFault, all_schema_faults, schema_fault, shadowing_fault};
@@ -153,7 +153,7 @@ const FAULTY: [(&str, &str); 10] = [
          2:39: a type that is not declared: `C`\n\
          2:51: a name of a namespace that hides one outside of namespaces: `N::Action::\"v\"`\n",
     ),
-    // a mark that is missing
+    // a mark is missing
     (
         "entity A\nentity B { a: X }\nentity C { b: A, c: B };",
         "2:1: `;` is expected, where `entity` is read\n\
@@ -171,7 +171,7 @@ const FAULTY: [(&str, &str); 10] = [
         "1:15: a name is expected, where `5` is read\n\
          3:15: a type that is not declared: `Gone`\n",
     ),
-    // what no word says is declared perhaps: an action by its text, and a type behind a wrong word
+    // names behind a fault may be declared: an action by its text, and a type behind a wrong word
     (
         "action \"a b\" on;\nentitty C, D { };\naction d in [\"a b\"], e in [\"b\"];\nentity E { c: C, d: Set<D>, e: F };",
         "1:14: `;` is expected, where `on` is read\n\
@@ -179,7 +179,7 @@ const FAULTY: [(&str, &str); 10] = [
          3:20: `;` is expected, where `,` is read\n\
          4:32: a type that is not declared: `F`\n",
     ),
-    // where a namespace begins or ends is not known
+    // the bounds of a namespace are not known
     (
         "namespace 5 {\n  entity A { b: B };\n}\nentity C { d: A, e: Gone };\nentity D 5;",
         "1:11: a name is expected, where `5` is read\n\
@@ -195,7 +195,7 @@ const FAULTY: [(&str, &str); 10] = [
         "2:17: a type that is not declared: `B`\n\
          3:1: a declaration is expected, where the text ends\n",
     ),
-    // what an alias stands for has its faults where it is declared
+    // faults of an alias stand at its declaration
     (
         "type A = Set<B>;\ntype B = { a: A };\ntype C = Gone;\nentity D { a: C, b: C, c: A };\ntype E = Long;\n\
          type E = Bool;\naction v appliesTo { principal: D, resource: D, context: E };\n\
@@ -209,7 +209,7 @@ const FAULTY: [(&str, &str); 10] = [
     ),
 ];
 
-/// All faults of a text, a line for each; `the first`, where none is found.
+/// All faults of a text, a line for each; `the first`, if none is found.
 fn describe_all(alloc: Global, text: &str) -> Result<String, Fail> {
     let first = TextFault {
         place: Loc { start: 0, end: 0 },
@@ -228,7 +228,7 @@ fn several(rt: HostRuntime) -> Result<(), Fail> {
     check(&rt, describe_all, &FAULTY)
 }
 
-/// A fault alone is told as ever, but for a type in itself, of which the name in it is told.
+/// A single fault is told as ever, except for a type in itself, whose inner name is told.
 #[test]
 fn one(rt: HostRuntime) -> Result<(), Fail> {
     let alloc = rt.alloc();

@@ -1,4 +1,4 @@
-// A schema in several files.
+// Schemas in several files.
 use crate::findings_tests::cases::check;
 use cedar_findings::faults::{TextFault, schema_fault};
 use cedar_findings::schema_texts::SchemaTexts;
@@ -7,7 +7,7 @@ use cedar_types::base::Loc;
 use std::alloc::Global;
 use std::test::Fail;
 
-/// The texts of some files with a `|` between them, and the fault that they have as one schema.
+/// The texts of some files with a `|` between them, and their fault as one schema.
 const SCHEMAS: [(&str, &str); 12] = [
     ("entity A;", ""),
     ("entity A { b: B };|entity B; // B", ""),
@@ -53,7 +53,7 @@ const SCHEMAS: [(&str, &str); 12] = [
     ),
 ];
 
-/// The number of the file in which the fault of some texts stands, the byte, and what is wrong.
+/// The number of the file with the fault of some texts, its byte, and its words.
 fn describe_in_files(alloc: Global, all: &str) -> Result<String, Fail> {
     let mut texts = SchemaTexts::new(alloc);
     for text in all.split('|') {

@@ -1,4 +1,4 @@
-// How many slips lead from one name to another, and which name is nearest.
+// Slips between two names, and searches for the nearest name.
 use cedar_findings::similar::{Search, distance};
 use std::alloc::{AllocError, Global};
 use std::test::Fail;
@@ -42,7 +42,7 @@ fn slips(alloc: Global, one: &str, two: &str) -> Result<usize, AllocError> {
     distance(alloc, from.as_slice(), to.as_slice())
 }
 
-/// A name that is not there, names that are, and the nearest of these.
+/// An unknown name, the known names, and the nearest of them.
 const SEARCHES: [(&str, &str, &str); 8] = [
     ("isPubic", "owner isPublic isPubl", "isPublic"),
     ("hom", "age home name", "home"),

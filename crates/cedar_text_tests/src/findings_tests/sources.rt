@@ -1,10 +1,10 @@
-// Bytes of files, and the texts that they are.
+// Bytes of files, and their texts.
 use cedar_findings::sources::{Content, content_of};
 use cedar_reading::Position;
 use std::alloc::{AllocError, Global};
 use std::test::Fail;
 
-/// Bytes, and what they say or where they say nothing.
+/// Bytes, and their text or the place where they are none.
 const FILES: [(&[u8], &str); 8] = [
     (b"a\nb", "text a\nb"),
     (b"", "text "),
@@ -37,7 +37,7 @@ fn files(rt: HostRuntime) -> Result<(), Fail> {
     Ok(())
 }
 
-/// What these bytes say, or where and why they say nothing.
+/// The text of these bytes, or the place and the reason of their fault.
 fn describe(alloc: Global, bytes: &[u8]) -> Result<String, AllocError> {
     match content_of(alloc, bytes)? {
         Content::Text(text) => format!(in alloc; "text {text}"),

@@ -1,4 +1,4 @@
-// In which syntax texts are written, by their beginning.
+// Syntaxes of texts, by their beginning.
 use cedar_findings::syntaxes::Syntax;
 use std::test::Fail;
 

@@ -1,4 +1,4 @@
-// The words that stand for others of the command line, and those that choose what is done.
+// Words of the command line that stand for others, and words that choose the task.
 use crate::findings_tests::cases::check;
 use cedar_findings::arguments::{Arguments, Asked, IdScope, Task, read_arguments};
 use cedar_findings::options::{Asks, WORDS, option_by_name};
@@ -15,7 +15,7 @@ const PARSE_ALONE: &str =
 
 const SINCE_ALONE: &str = "`--since` is for policies alone: without `--entities` and `--request`";
 
-/// Command lines, and what they ask for or what is wrong with them.
+/// Command lines, with their task or their misuse.
 const LINES: [(&str, &str); 42] = [
     ("-s s -p p", "validation of s: p"),
     ("-s=s -p=p", "validation of s: p"),
@@ -85,7 +85,7 @@ const LINES: [(&str, &str); 42] = [
     ("s -V", "version"),
 ];
 
-/// What a command line asks for, in words.
+/// The task of a command line, in words.
 fn show_task(alloc: Global, line: &str) -> Result<String, Fail> {
     let mut words = Vec::new(alloc);
     for word in line.split(' ') {
@@ -167,7 +167,7 @@ fn statuses_side_by_side(rt: HostRuntime) -> Result<(), Fail> {
     Ok(())
 }
 
-/// No two words of the table have one name, and each name begins as an option does.
+/// No two words of the table share a name, and each name begins as an option does.
 #[test]
 fn names_are_of_one_word(rt: HostRuntime) -> Result<(), Fail> {
     let alloc = rt.alloc();

@@ -1,10 +1,10 @@
-// Tables of cases: texts, and what they give.
+// Tables of cases: texts with their answers.
 use crate::frames::Frame;
 use std::alloc::{AllocError, Global};
 use std::process::Abort;
 use std::test::Fail;
 
-/// Each text gives what stands beside it.
+/// Checks that each text gives the answer beside it.
 pub fn check<F: Fn(Global, &str) -> Result<String, AllocError>>(
     rt: &impl Abort,
     alloc: Global,
@@ -20,7 +20,7 @@ pub fn check<F: Fn(Global, &str) -> Result<String, AllocError>>(
     Ok(())
 }
 
-/// Each part has, in this frame, the fault beside it, at the mark `§` in it. A policy of several ends with `;`.
+/// Checks that each part has, in this frame, the fault beside it, at the mark `§` in it. A policy of several ends with `;`.
 pub fn check_faults<F: Fn(Global, &str) -> Result<String, AllocError>>(
     rt: &impl Abort,
     alloc: Global,
@@ -45,7 +45,7 @@ pub fn check_faults<F: Fn(Global, &str) -> Result<String, AllocError>>(
     Ok(())
 }
 
-/// The text without its first `§`, and at which byte that stood: at the end where there is none.
+/// The text without its first `§`, and the byte of that: the end of the text if there is none.
 fn split_at_mark(alloc: Global, text: &str) -> Result<(String, usize), AllocError> {
     let (before, behind) = text.split_once('§').unwrap_or((text, ""));
     let mut whole = String::from_str(alloc, before)?;

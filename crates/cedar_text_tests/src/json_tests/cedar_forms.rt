@@ -1,4 +1,4 @@
-// Forms in which Cedar itself writes or reads JSON: `null` where it has an option, and other words for the same.
+// Forms in which Cedar itself writes or reads JSON: `null` for an option, and other words for one meaning.
 use crate::frames::Frame;
 use crate::json_tests::cases::{check, check_faults};
 use crate::json_tests::policies::CONDITION;
@@ -6,19 +6,19 @@ use crate::json_tests::policy_trees::show_policies;
 use crate::json_tests::schemas::show_schema;
 use std::test::Fail;
 
-/// What stands before and behind the annotations of a policy without constraints.
+/// The text before and behind the annotations of a policy without constraints.
 const ANNOTATIONS: Frame<'static> = (
     r#"{"effect": "permit", "principal": {"op": "All"}, "action": {"op": "All"}, "resource": {"op": "All"}, "conditions": [], "annotations": "#,
     "}",
 );
 
-/// What stands before and behind the type of the tags of an entity type `A`.
+/// The text before and behind the type of the tags of an entity type `A`.
 const TAGS: Frame<'static> = (
     r#"{"": {"entityTypes": {"A": {"tags": "#,
     r#"}}, "actions": {}}}"#,
 );
 
-/// What stands before and behind an action `a`.
+/// The text before and behind an action `a`.
 const ACTION: Frame<'static> = (r#"{"": {"entityTypes": {}, "actions": {"a": "#, "}}}");
 
 /// An annotation without a value is as `@doc` in Cedar's own syntax, and its value is the empty text.
@@ -54,7 +54,7 @@ fn scopes(rt: HostRuntime) -> Result<(), Fail> {
     check(&rt, rt.alloc(), show_policies, &SCOPES)
 }
 
-/// Conditions, and what each is.
+/// Conditions with their trees.
 const CONDITIONS: [(&str, &str); 4] = [
     (
         r#"{"is": {"left": {"Var": "principal"}, "entity_type": "U", "in": null}}"#,
@@ -87,7 +87,7 @@ fn conditions(rt: HostRuntime) -> Result<(), Fail> {
     Ok(())
 }
 
-/// Conditions with a fault at the mark, and which.
+/// Conditions with a fault at the mark, and the fault.
 const FAULTS_OF_CONDITIONS: [(&str, &str); 6] = [
     (r#"{"Value": §null}"#, "Null"),
     (r#"{"Value": [1, {"a": §null}]}"#, "Null"),
@@ -117,13 +117,14 @@ fn faults_of_conditions(rt: HostRuntime) -> Result<(), Fail> {
     )
 }
 
-/// Where `null` stands in the place of a value, the policy alone has a fault.
+/// A `null` in place of a value is a fault of its policy alone.
 #[test]
 fn a_null_of_one_policy(rt: HostRuntime) -> Result<(), Fail> {
     let (before, behind) = ANNOTATIONS;
     let good = format!(in rt.alloc(); "{before}{{}}{behind}")?;
     let json = format!(in rt.alloc(); "[{good}, {{\"effect\": null}}, {good}, null]")?;
-    // `null` stands behind the bracket, the first policy, `, ` and `{"effect": `; the last one before the closing bracket
+    // `null` stands behind the bracket, the first policy, `, ` and `{"effect": `; the last one stands before the closing
+    // bracket.
     let first = good.len().saturating_add(14);
     let last = json.len().saturating_sub(5);
     let wanted = format!(in rt.alloc();
@@ -137,7 +138,7 @@ fn a_null_of_one_policy(rt: HostRuntime) -> Result<(), Fail> {
     )
 }
 
-/// Types by their names, and how each is written.
+/// Types by their names, and their text in Cedar's own syntax.
 const TYPES: [(&str, &str); 4] = [
     (r#"{"type": "ipaddr"}"#, "__cedar::ipaddr"),
     (r#"{"type": "decimal"}"#, "__cedar::decimal"),
@@ -168,7 +169,7 @@ fn extension_types_by_name(rt: HostRuntime) -> Result<(), Fail> {
     check(&rt, rt.alloc(), show_schema, &[(declared, wanted)])
 }
 
-/// Tags with a fault at the mark, and which: no primitive type is an extension type, and what an entity has is a value.
+/// Tags with a fault at the mark, and the fault: no primitive type is an extension type, and an entity has values only.
 const FAULTS_OF_TAGS: [(&str, &str); 5] = [
     (r#"{"type": "Extension", "name": §"Long"}"#, "Undeclared"),
     (r#"{"type": "Extension", "name": §"String"}"#, "Undeclared"),
@@ -182,7 +183,7 @@ fn faults_of_tags(rt: HostRuntime) -> Result<(), Fail> {
     check_faults(&rt, rt.alloc(), show_schema, TAGS, &FAULTS_OF_TAGS)
 }
 
-/// Schemas with a name, at the mark, that nothing declares and that means something in Cedar's own syntax.
+/// Schemas with a name, at the mark, that nothing declares although it has a meaning in Cedar's own syntax.
 const NAMES_OF_OTHERS: [(&str, &str); 4] = [
     (
         r#"{"": {"commonTypes": {"C": {"type": "Long"}}, "entityTypes": {"A": {"tags": {"type": "Entity", "name": §"C"}}}, "actions": {}}}"#,

@@ -1,4 +1,4 @@
-// Texts of policies that are read one policy after another: which fault is one of the text, and which of a policy alone.
+// Policies that are read one after another: some faults belong to the text, and some to one policy.
 use crate::json_tests::cases::{check, check_faults};
 use crate::json_tests::policy_trees::show_policies;
 use std::alloc::{AllocError, Global};
@@ -8,10 +8,10 @@ use std::test::Fail;
 const ALL: &str =
     r#"{"effect": "permit", "principal": {"op": "All"}, "action": {"op": "All"}, "resource": {"op": "All"}}"#;
 
-/// What a policy without constraints is, behind its id.
+/// The shown policy without constraints, behind its id.
 const ANY: &str = "permit any any any;";
 
-/// So many of these, and then as many of those.
+/// The first text `count` times, and then the second as often.
 fn nested(alloc: Global, count: usize, before: &str, behind: &str) -> Result<String, AllocError> {
     let mut text = String::new(alloc);
     for _ in 0..count {
@@ -23,13 +23,13 @@ fn nested(alloc: Global, count: usize, before: &str, behind: &str) -> Result<Str
     Ok(text)
 }
 
-/// A policy that is nested too deep costs itself alone. Brackets in quotes count for nothing.
+/// A policy that is nested too deep loses itself alone. Brackets in quotes count for nothing.
 #[test]
 fn too_deep(rt: HostRuntime) -> Result<(), Fail> {
     let alloc = rt.alloc();
     let lists = nested(alloc, 500, "[", "]")?;
     let deep = format!(in alloc; "{{\"effect\": {lists}, \"x\": \"]\\\"}}\"}}")?;
-    // of the list the first bracket is the second one that is open, so that the 400th of it is one too many
+    // the first bracket of the list is the second one that is open, so the 400th of it is one too many
     let list = format!(in alloc; "[{ALL}, {deep}, {ALL}]")?;
     let in_list = ALL.len().saturating_add(3 + 11 + 398);
     let wanted = format!(in alloc; "policy0 {ANY}{in_list} Json(TooDeep);policy2 {ANY}")?;
@@ -39,7 +39,7 @@ fn too_deep(rt: HostRuntime) -> Result<(), Fail> {
         show_policies,
         &[(list.as_str(), wanted.as_str())],
     )?;
-    // in a set one more is open
+    // in a set one more bracket is open
     let set = format!(in alloc; "{{\"staticPolicies\": {{\"a\": {deep}, \"b\": {ALL}}}}}")?;
     let in_set = 20 + 5 + 11 + 397;
     let wanted = format!(in alloc; "{in_set} Json(TooDeep);b {ANY}")?;
@@ -49,13 +49,13 @@ fn too_deep(rt: HostRuntime) -> Result<(), Fail> {
         show_policies,
         &[(set.as_str(), wanted.as_str())],
     )?;
-    // without an end of the policy the text has none
+    // a policy without an end leaves the text without one
     let open = nested(alloc, 500, "[", "")?;
     let wanted = "400 Json(TooDeep)";
     check(&rt, alloc, show_policies, &[(open.as_str(), wanted)])
 }
 
-/// Texts with a fault of JSON behind a policy: none is read.
+/// Texts with a fault of JSON behind a policy: no policy is read.
 const FAULTS_OF_TEXTS: [(&str, &str); 8] = [
     (r#"[{"effect": "permit"}, §x]"#, "Json(Value)"),
     (r#"[{"effect": "permit"}§"#, "Json(InArray)"),
@@ -78,7 +78,7 @@ fn faults_of_texts(rt: HostRuntime) -> Result<(), Fail> {
     check_faults(&rt, rt.alloc(), show_policies, ("", ""), &FAULTS_OF_TEXTS)
 }
 
-/// Policy sets with a part of another form, of which the first in this order is told: a key, `templates`, `staticPolicies`,
+/// Policy sets with a part of another form. The first in this order is told: a key, `templates`, `staticPolicies`,
 /// `templateLinks`.
 const FAULTS_OF_SETS: [(&str, &str); 5] = [
     (

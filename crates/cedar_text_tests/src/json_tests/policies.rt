@@ -7,13 +7,13 @@ use cedar_types::base::Loc;
 use std::alloc::{AllocError, Global};
 use std::test::Fail;
 
-/// What stands before and behind the condition of a policy without constraints.
+/// The text before and behind the condition of a policy without constraints.
 pub const CONDITION: Frame<'static> = (
     r#"{"effect": "permit", "principal": {"op": "All"}, "action": {"op": "All"}, "resource": {"op": "All"}, "conditions": [{"kind": "when", "body": "#,
     "}]}",
 );
 
-/// What the condition of a policy without constraints is.
+/// The tree of a condition in a policy without constraints.
 fn show_condition(alloc: Global, condition: &str) -> Result<String, AllocError> {
     let (before, behind) = CONDITION;
     let json = format!(in alloc; "{before}{condition}{behind}")?;
@@ -57,7 +57,7 @@ const VALUES: [(&str, &str); 16] = [
     ),
 ];
 
-/// Operators on two operands, and what each is of 1 and 2.
+/// Operators on two operands, with their trees of 1 and 2.
 const OPERATORS: [(&str, &str); 17] = [
     ("==", "(== 1 2)"),
     ("!=", "(not (== 1 2))"),
@@ -78,7 +78,7 @@ const OPERATORS: [(&str, &str); 17] = [
     ("hasTag", "(hasTag 1 2)"),
 ];
 
-/// What the condition of such an operator, of 1 and 2, is.
+/// The tree of an operator on 1 and 2.
 fn show_operator(alloc: Global, key: &str) -> Result<String, AllocError> {
     let condition = format!(in alloc;
         "{{\"{key}\": {{\"left\": {{\"Value\": 1}}, \"right\": {{\"Value\": 2}}}}}}"
@@ -86,7 +86,7 @@ fn show_operator(alloc: Global, key: &str) -> Result<String, AllocError> {
     show_condition(alloc, condition.as_str())
 }
 
-/// The other forms.
+/// The other forms of conditions.
 const OTHER_FORMS: [(&str, &str); 13] = [
     (r#"{"!": {"arg": {"Value": true}}}"#, "(not true)"),
     (r#"{"neg": {"arg": {"Value": 1}}}"#, "(neg 1)"),

@@ -1,10 +1,10 @@
-// Policies of JSON with a fault: which it is, and where.
+// Faults of policies in JSON, with their places.
 use crate::json_tests::cases::check_faults;
 use crate::json_tests::policies::CONDITION;
 use crate::json_tests::policy_trees::show_policies;
 use std::test::Fail;
 
-/// Conditions with a fault at the mark, and which.
+/// Conditions with a fault at the mark, and the fault.
 const CONDITIONS: [(&str, &str); 18] = [
     ("§1", r#"Expected("an object")"#),
     ("§{}", r#"Expected("an expression")"#),
@@ -61,7 +61,7 @@ fn in_conditions(rt: HostRuntime) -> Result<(), Fail> {
     check_faults(&rt, rt.alloc(), show_policies, CONDITION, &CONDITIONS)
 }
 
-/// Policies and sets of policies with a fault at the mark, and which.
+/// Policies and sets of policies with a fault at the mark, and the fault.
 const POLICIES: [(&str, &str); 16] = [
     ("§1", r#"Expected("an object")"#),
     ("[§1]", r#"Expected("an object")"#),

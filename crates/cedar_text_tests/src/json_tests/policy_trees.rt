@@ -5,7 +5,7 @@ use cedar_json::{FormError, Policies, ReadPolicy};
 use cedar_types::base::{ActionConstraint, PrincipalOrResourceConstraint};
 use std::alloc::{AllocError, Global};
 
-/// What the policies of a text are, each with `;` behind it.
+/// The policies of a text, each with `;` behind it.
 pub fn show_policies(alloc: Global, json: &str) -> Result<String, AllocError> {
     let mut out = String::new(alloc);
     match push_policies(alloc, &mut out, json) {

@@ -1,10 +1,10 @@
-// Texts and what they give: a value with its places, or the first fault and the byte at which it stands.
+// Texts with their values and the places of these, or with their first fault and its byte.
 use crate::json_tests::cases::check;
 use crate::json_tests::shown::show_value;
 use std::alloc::Global;
 use std::test::Fail;
 
-/// Values without parts, and texts that are none.
+/// Values without parts, and texts that are no values.
 const PLAIN_VALUES: [(&str, &str); 19] = [
     ("true", "0-4=true"),
     ("false", "0-5=false"),
@@ -27,7 +27,7 @@ const PLAIN_VALUES: [(&str, &str); 19] = [
     ("\u{a0}1", "0 Value"),
 ];
 
-/// Numbers, and texts that are nearly some.
+/// Numbers, and texts that are nearly numbers.
 const NUMBERS: [(&str, &str); 29] = [
     ("0", "0-1=0"),
     ("-0", "0-2=0"),
@@ -179,7 +179,7 @@ fn values(rt: HostRuntime) -> Result<(), Fail> {
     Ok(())
 }
 
-/// So many brackets, and what stands in them.
+/// The brackets `depth` times around nothing.
 fn nest(alloc: Global, opening: &str, closing: &str, depth: usize) -> Result<String, Fail> {
     let mut text = String::new(alloc);
     for _ in 0..depth {

@@ -1,4 +1,4 @@
-// Schemas of JSON, read in Cedar's own syntax: what they declare, and the places of their faults in the text of JSON.
+// Schemas of JSON, read in Cedar's own syntax: their declarations, and the places of their faults in the text of JSON.
 use crate::json_tests::cases::check_faults;
 use cedar_json::{FormError, schema_text};
 use cedar_reading::{
@@ -7,7 +7,7 @@ use cedar_reading::{
 use std::alloc::{AllocError, Global};
 use std::test::Fail;
 
-/// `read`, or the fault of a schema, and the byte of the text of JSON at which it stands.
+/// `read`, or the fault of a schema, and its byte in the text of JSON.
 fn read_schema(alloc: Global, json: &str) -> Result<String, AllocError> {
     let written = match schema_text(alloc, json) {
         Ok(written) => written,
@@ -82,7 +82,7 @@ fn schemas(rt: HostRuntime) -> Result<(), Fail> {
     Ok(())
 }
 
-/// Schemas with a fault at the mark, and which.
+/// Schemas with a fault at the mark, and the fault.
 const FAULTS: [(&str, &str); 16] = [
     (
         r#"{"": {"entityTypes": {"A": {"memberOfTypes": [§"B"]}}, "actions": {}}}"#,

@@ -1,4 +1,4 @@
-// Schemas of JSON with a fault: which it is, and where.
+// Faults of schemas in JSON, with their places.
 use crate::frames::Frame;
 use crate::json_tests::cases::check_faults;
 use crate::json_tests::schemas::show_schema;
@@ -7,7 +7,7 @@ use std::alloc::{AllocError, Global};
 use std::process::Abort;
 use std::test::Fail;
 
-/// Schemas with a fault at the mark, and which.
+/// Schemas with a fault at the mark, and the fault.
 const WHOLE: [(&str, &str); 13] = [
     ("§[]", r#"Expected("an object")"#),
     (r#"{"N": §1}"#, r#"Expected("an object")"#),
@@ -50,10 +50,10 @@ fn in_schemas(rt: HostRuntime) -> Result<(), Fail> {
     check_faults(&rt, rt.alloc(), show_schema, ("", ""), &WHOLE)
 }
 
-/// What stands before and behind an entity type `A` of the namespace `N`.
+/// The text before and behind an entity type `A` of the namespace `N`.
 const ENTITY_TYPE: Frame<'static> = (r#"{"N": {"entityTypes": {"A": "#, r#"}, "actions": {}}}"#);
 
-/// What entity types have.
+/// Bodies of entity types.
 const ENTITY_TYPES: [(&str, &str); 5] = [
     (r#"{§"parents": []}"#, "UnknownKey"),
     (r#"{"enum": [], §"tags": {"type": "Long"}}"#, "UnknownKey"),
@@ -83,7 +83,7 @@ fn in_types(rt: HostRuntime) -> Result<(), Fail> {
     check_member(&rt, rt.alloc(), "tags", &TYPES)
 }
 
-/// Types that have to be records.
+/// Types that must be records.
 const SHAPES: [(&str, &str); 3] = [
     (r#"{"type": §"Long"}"#, r#"Expected("a record")"#),
     (
@@ -101,7 +101,7 @@ fn in_shapes(rt: HostRuntime) -> Result<(), Fail> {
     check_member(&rt, rt.alloc(), "shape", &SHAPES)
 }
 
-/// Each text is a member of this name of an entity type, and has this fault at the mark in it.
+/// Checks that each text, as the member of this name of an entity type, has this fault at its mark.
 fn check_member(
     rt: &impl Abort,
     alloc: Global,
@@ -115,7 +115,7 @@ fn check_member(
     check_faults(rt, alloc, show_schema, frame, cases)
 }
 
-/// What actions have.
+/// Bodies of actions.
 const ACTIONS: [(&str, &str); 4] = [
     (r#"{"attributes": §{"b": 1}}"#, "ActionAttributes"),
     (r#"{"memberOf": [§{}]}"#, r#"Missing("id")"#),

@@ -5,7 +5,7 @@ use cedar_types::base::Loc;
 use std::alloc::{AllocError, Global};
 use std::test::Fail;
 
-/// What a schema of JSON is in Cedar's syntax.
+/// The text of a schema of JSON in Cedar's syntax.
 pub fn show_schema(alloc: Global, json: &str) -> Result<String, AllocError> {
     match schema_text(alloc, json) {
         Ok(written) => String::from_str(alloc, written.text()),
@@ -40,7 +40,7 @@ const ENTITY_TYPES: [(&str, &str); 7] = [
     ),
 ];
 
-/// Types, and how each is written.
+/// Types, and their text in Cedar's own syntax.
 const TYPES: [(&str, &str); 8] = [
     (r#"{"type": "Long"}"#, "__cedar::Long"),
     (r#"{"type": "String"}"#, "__cedar::String"),
@@ -61,7 +61,7 @@ const TYPES: [(&str, &str); 8] = [
     ),
 ];
 
-/// What a common type of JSON is in Cedar's syntax, or the whole schema where that is not a common type alone.
+/// The text of a common type of JSON in Cedar's syntax, or the whole schema if that is not a common type alone.
 fn show_type(alloc: Global, written: &str) -> Result<String, AllocError> {
     let json = format!(in alloc;
         "{{\"\": {{\"commonTypes\": {{\"T\": {written}}}, \"entityTypes\": {{}}, \"actions\": {{}}}}}}"
@@ -88,12 +88,12 @@ const COMMON_TYPES: [(&str, &str); 2] = [
 
 /// Schemas whose names are looked up in their namespace and outside.
 const NAMES_OF_NAMESPACES: [(&str, &str); 3] = [
-    // the namespace's own comes first, else what is outside
+    // the namespace's own name comes first, and an outer one second
     (
         r#"{"": {"entityTypes": {"B": {}}, "actions": {}}, "N": {"commonTypes": {"T": {"type": "Entity", "name": "A"}, "U": {"type": "EntityOrCommon", "name": "B"}, "V": {"type": "T"}}, "entityTypes": {"A": {}}, "actions": {}}}"#,
         "entity B;\nnamespace N {\ntype T = N::A;\ntype U = B;\ntype V = N::T;\nentity A;\n}\n",
     ),
-    // a record of another namespace is written with what its names mean there
+    // a record of another namespace is written with the meaning that its names have there
     (
         r#"{"N": {"commonTypes": {"R": {"type": "Record", "attributes": {"a": {"type": "Entity", "name": "A"}}}}, "entityTypes": {"A": {}}, "actions": {}}, "M": {"entityTypes": {"A": {"shape": {"type": "N::R"}}}, "actions": {}}}"#,
         "namespace N {\ntype R = {\"a\": N::A, };\nentity A;\n}\nnamespace M {\nentity A = {\"a\": N::A, };\n}\n",
@@ -123,7 +123,7 @@ const ACTIONS: [(&str, &str); 5] = [
         r#"{"": {"entityTypes": {"A": {}}, "actions": {"a": {"appliesTo": {"principalTypes": ["A"], "resourceTypes": ["A"], "context": {"type": "Record", "attributes": {"b": {"type": "Boolean"}}}}}}}}"#,
         "entity A;\naction \"a\" appliesTo { principal: [A, ], resource: [A, ], context: {\"b\": __cedar::Bool, } };\n",
     ),
-    // without a principal type or a resource type it applies to nothing
+    // an action without a principal type or a resource type applies to nothing
     (
         r#"{"": {"entityTypes": {"A": {}}, "actions": {"a": {"appliesTo": {"principalTypes": [], "resourceTypes": ["A"]}}}}}"#,
         "entity A;\naction \"a\";\n",
@@ -145,7 +145,7 @@ fn places(rt: HostRuntime) -> Result<(), Fail> {
     let json = r#"{"": {"entityTypes": {"A": {"memberOfTypes": ["Bcd"]}}, "actions": {}}}"#;
     let written = schema_text(alloc, json)?;
     assert_eq!(rt; written.text(), "entity A in [Bcd, ];\n");
-    // `entity ` is of no part, `A` of its key, ` in ` and the bracket of the list, and `Bcd` and what follows of the name
+    // `entity ` belongs to no part, `A` to its key, ` in ` and the bracket to the list, and `Bcd` and the rest to the name.
     for (at, start, end) in [
         (0, 0, 0),
         (6, 0, 0),

@@ -1,4 +1,4 @@
-// Values as a line: each with its first byte and the one behind its last.
+// Values as a line: each with its first byte and the byte behind its last.
 use cedar_json::{ReadError, Value, ValueKind, value_alone};
 use std::alloc::{AllocError, Global};
 

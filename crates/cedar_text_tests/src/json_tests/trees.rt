@@ -42,7 +42,7 @@ pub fn push_expr(out: &mut String, expr: &Expr) -> Result<(), AllocError> {
     push_closing(out, &expr.kind)
 }
 
-/// Writes expressions, each between these two.
+/// Writes expressions, each between these two texts.
 #[cycle(trees)]
 fn push_list(
     out: &mut String,
@@ -68,7 +68,7 @@ fn push_fields(out: &mut String, fields: &BTreeMap<RcStr, Expr>) -> Result<(), A
     Ok(())
 }
 
-/// Writes what stands before the parts of a form: all of a form that has no parts.
+/// Writes the beginning of a form, before its parts: the whole form if it has none.
 fn push_opening(out: &mut String, kind: &ExprKind) -> Result<(), AllocError> {
     match kind {
         ExprKind::Lit(literal) => push_literal(out, literal),
@@ -91,7 +91,7 @@ fn push_opening(out: &mut String, kind: &ExprKind) -> Result<(), AllocError> {
     }
 }
 
-/// Writes what stands behind the parts of a form.
+/// Writes the end of a form, behind its parts.
 fn push_closing(out: &mut String, kind: &ExprKind) -> Result<(), AllocError> {
     match kind {
         ExprKind::Lit(_) | ExprKind::Var(_) | ExprKind::Slot(_) | ExprKind::Unknown(_) => Ok(()),

@@ -1,9 +1,9 @@
-// Texts of several policies, of which some have a fault.
+// Texts of several policies, some of which have a fault.
 use crate::reading_tests::shown::show;
 use std::alloc::{AllocError, Global};
 use std::test::Fail;
 
-/// Texts in which the fault of each case stands in the first policy, and what is told of that.
+/// Texts with the fault of each case in the first policy, and the words for it.
 const FIRST: [(&str, &str); 15] = [
     ("", ""),
     ("permit", "policy0 0..6 !6 ( is expected: permit"),
@@ -70,7 +70,7 @@ fn parts_before_a_fault_are_kept(rt: HostRuntime) -> Result<(), Fail> {
     Ok(())
 }
 
-/// Three policies, of which the second is this one, on lines of their own.
+/// Three policies on lines of their own, the second of which is this one.
 fn between_two(alloc: Global, second: &str) -> Result<String, AllocError> {
     let policy = "permit(principal, action, resource);";
     show(
@@ -79,7 +79,7 @@ fn between_two(alloc: Global, second: &str) -> Result<String, AllocError> {
     )
 }
 
-/// What stands between two policies, and the lines on it.
+/// Texts between two policies, and their lines.
 const BETWEEN: [(&str, &str); 6] = [
     (
         "forbid(principal, action, resource) when { principal. };",

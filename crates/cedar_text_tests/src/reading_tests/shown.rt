@@ -1,10 +1,11 @@
-// Policies as a line: what was read of each.
+// Policies as a line: the parts that were read of each.
 use cedar_fixtures::shown::push_constraint;
 use cedar_reading::{FaultyPolicy, ReadError, ReadPolicy, policies_with_faults};
 use cedar_types::base::{ActionConstraint, Expr, Loc};
 use std::alloc::{AllocError, Global};
 
-/// The policies of a text, each on a line. Of one with a fault: its fault and the byte of that, its place, and what was read.
+/// The policies of a text, each on a line. A policy with a fault has the fault and its byte, the policy's place, and the parts
+/// that were read.
 pub fn show(alloc: Global, text: &str) -> Result<String, AllocError> {
     let policies = match policies_with_faults(alloc, text) {
         Ok(policies) => policies,
@@ -63,7 +64,7 @@ fn push_action(out: &mut String, constraint: &ActionConstraint) -> Result<(), Al
     }
 }
 
-/// The text at which a condition stands, if there is one.
+/// The text of a condition, if there is one.
 fn push_condition(
     out: &mut String,
     word: &str,
@@ -77,7 +78,7 @@ fn push_condition(
     out.push_str(text_of(text, condition))
 }
 
-/// The text at which an expression stands.
+/// The text of an expression.
 pub fn text_of<'a>(text: &'a str, expr: &Expr) -> &'a str {
     match expr.loc {
         Some(Loc { start, end }) => text.get(start..end).unwrap_or("?"),

@@ -1,11 +1,11 @@
-// What is left of the fault of a condition: its text, and the tree of that text.
+// Rests of a condition before its fault: the text, and the tree of that text.
 use crate::reading_tests::shown::text_of;
 use cedar_reading::{ReadError, condition, policies_with_faults};
 use cedar_types::base::{Expr, ExprShapeOnly};
 use std::alloc::{AllocError, Global};
 use std::test::Fail;
 
-/// Conditions with a fault, and what is left of it.
+/// Conditions with a fault, and the rest before it.
 const CONDITIONS: [(&str, &str); 32] = [
     (
         "principal.age > 18 && resource.",
@@ -47,7 +47,7 @@ const CONDITIONS: [(&str, &str); 32] = [
     ("1 < 99999999999999999999", "1"),
 ];
 
-/// What is left of the fault of a condition, which is no end of a policy: its text; empty where nothing is.
+/// The rest of a condition before its fault, which is not the end of a policy; empty if there is no rest.
 fn left_of_fault(alloc: Global, condition: &str) -> Result<String, ReadError> {
     let text = format!(in alloc; "permit(principal, action, resource) when {{ {condition} }};")?;
     let mut shown = String::new(alloc);
@@ -65,7 +65,7 @@ fn left_of_fault(alloc: Global, condition: &str) -> Result<String, ReadError> {
     Ok(shown)
 }
 
-/// Adds a mark where a tree is not that of the text so far.
+/// Adds a mark if a tree is not the one of the text so far.
 fn check_tree(alloc: Global, expr: &Expr, shown: &mut String) -> Result<(), ReadError> {
     let alone = condition(alloc, shown.as_str())?;
     if ExprShapeOnly::Borrowed(expr) != ExprShapeOnly::Borrowed(&alone) {
@@ -74,7 +74,7 @@ fn check_tree(alloc: Global, expr: &Expr, shown: &mut String) -> Result<(), Read
     Ok(())
 }
 
-/// What is left, or the fault of what is asked.
+/// The rest of a condition, or the fault of the text.
 fn answer(alloc: Global, condition: &str) -> Result<String, AllocError> {
     match left_of_fault(alloc, condition) {
         Ok(shown) => Ok(shown),

@@ -1,4 +1,4 @@
-//! What changes for the policies of a file from one schema to another, as an output shows it.
+//! Changes for the policies of a file from one schema to another, as an output shows them.
 use crate::changes::{Compared, Comparisons, compare};
 use crate::links::{Links, judge_link};
 use crate::settings::Settings;
@@ -10,14 +10,14 @@ use cedar_findings::sources::Source;
 use cedar_types::base::{ArgumentCheck, Template};
 use std::alloc::{AllocError, Global};
 
-/// What policies are judged by, first and then.
+/// The settings of both schemas, the older and the newer.
 #[derive(Drop)]
 pub struct BothSettings<'a, C = Box<dyn ArgumentCheck>> {
     pub old: Settings<'a, C>,
     pub new: Settings<'a, C>,
 }
 
-/// The policies of a file of which changes are shown, one after another.
+/// The policies of a file, whose changes are shown one after another.
 #[derive(Drop)]
 pub struct ShownChanges<'a> {
     compared: Comparisons<'a>,
@@ -25,7 +25,7 @@ pub struct ShownChanges<'a> {
 }
 
 impl<'a> ShownChanges<'a> {
-    /// Of a file of which nothing was shown yet. Where its text has a fault as a whole, that is shown, and the answer is `None`.
+    /// The policies of a file, none shown yet. If the whole text has a fault, the fault is shown, and the answer is `None`.
     pub fn begin<C: ArgumentCheck>(
         alloc: Global,
         settings: &BothSettings<'_, C>,
@@ -46,13 +46,13 @@ impl<'a> ShownChanges<'a> {
         }
     }
 
-    /// How often something is shown at most.
+    /// An upper bound on the number of policies that are shown.
     pub fn most(&self) -> usize {
         self.compared.most()
     }
 
-    /// Judges the next policy with its links by both, and shows what changed, or shows why it cannot be read. Whether there was
-    /// one.
+    /// Judges the next policy with its links by both settings, and shows its changes, or shows why it cannot be read. The
+    /// answer is false if no policy is left.
     pub fn show_next<C: ArgumentCheck>(
         &mut self,
         alloc: Global,
@@ -79,7 +79,7 @@ impl<'a> ShownChanges<'a> {
         Ok(true)
     }
 
-    /// Counts a policy, and shows what changed between these verdicts, if something did.
+    /// Counts a policy, and shows the changes between these verdicts, if there are any.
     fn show_change(
         &mut self,
         alloc: Global,
@@ -96,7 +96,7 @@ impl<'a> ShownChanges<'a> {
         output.show(alloc, self.report.source().name, shown.as_str())
     }
 
-    /// Shows behind the policies that the rest of the file is not read, where it is not.
+    /// Shows that the rest of the file is not read, if it is not.
     pub fn end(self, alloc: Global, output: &mut Output) -> Result<(), AllocError> {
         if self.compared.is_cut() {
             output.add_cut(alloc, self.report.source().name, MAX_FAULTS)?;

@@ -1,4 +1,4 @@
-//! The policies of a file, and what is said of each and of its links, as an output shows it.
+//! Policies of a file with the verdicts on them and on their links, as an output shows them.
 use crate::call_ids::CallIds;
 use crate::links::{Links, judge_link};
 use crate::settings::Settings;
@@ -10,15 +10,15 @@ use cedar_findings::sources::Source;
 use cedar_types::base::{ArgumentCheck, Template};
 use std::alloc::{AllocError, Global};
 
-/// What the files of policies of a call share.
+/// The state that the policy files of a call share.
 #[derive(Drop)]
 pub struct Shared {
-    /// The ids of the policies, where these have to be unique.
+    /// The ids of the policies, if they must be unique in all files.
     pub ids: Option<CallIds>,
     pub links: Links,
 }
 
-/// The policies of a file that are shown one after another.
+/// The policies of a file, which are shown one after another.
 #[derive(Drop)]
 pub struct ShownPolicies<'a> {
     source: Source<'a>,
@@ -27,7 +27,7 @@ pub struct ShownPolicies<'a> {
 }
 
 impl<'a> ShownPolicies<'a> {
-    /// Of a file of which nothing was shown yet. Where its text has a fault as a whole, that is shown, and the answer is `None`.
+    /// The policies of a file, none shown yet. If the whole text has a fault, the fault is shown, and the answer is `None`.
     pub fn begin<C: ArgumentCheck>(
         alloc: Global,
         settings: &Settings<'_, C>,
@@ -53,12 +53,13 @@ impl<'a> ShownPolicies<'a> {
         }))
     }
 
-    /// How often something is shown at most.
+    /// An upper bound on the number of policies that are shown.
     pub fn most(&self) -> usize {
         self.said.most()
     }
 
-    /// Judges and shows the next policy with its links, or shows why it cannot be read. Whether there was one.
+    /// Judges and shows the next policy with its links, or shows why it cannot be read. The answer is false if no policy is
+    /// left.
     pub fn show_next<C: ArgumentCheck>(
         &mut self,
         alloc: Global,
@@ -107,7 +108,7 @@ impl<'a> ShownPolicies<'a> {
         output.show(alloc, name, shown.as_str())
     }
 
-    /// Shows behind the policies that the rest of the file is not read, where it is not.
+    /// Shows that the rest of the file is not read, if it is not.
     pub fn end(self, alloc: Global, output: &mut Output) -> Result<(), AllocError> {
         output.format = self.report.format();
         if self.said.is_cut() {

@@ -1,4 +1,4 @@
-//! The schema of files, or its faults as an output shows them.
+//! Schemas of files, or their faults as an output shows them.
 use crate::schemas::{SchemaFault, json_schema_or_faults, schema_or_faults};
 use cedar_findings::outputs::Output;
 use cedar_findings::schema_texts::SchemaTexts;
@@ -7,29 +7,29 @@ use cedar_findings::syntaxes::Syntax;
 use cedar_types::base::ValidatorSchema;
 use std::alloc::{AllocError, Global};
 
-/// What is said of a schema in JSON that is not the only file of the schema.
+/// The message for a schema in JSON that is not the only file of the schema.
 const NOT_ALONE: &str = "a schema in JSON has to be the only file of the schema";
 
 /// The files of a schema, whose texts are taken in one after another.
 #[derive(Drop)]
 pub struct SchemaFiles<'a> {
     names: &'a [String],
-    /// The syntax of each file, where its first characters do not tell it.
+    /// The syntax of all files; `None` if their first characters tell it.
     syntax: Option<Syntax>,
     texts: SchemaTexts,
 }
 
-/// What was taken in.
+/// The result of taking in a text.
 #[derive(Drop)]
 pub enum Taken {
     /// A text in Cedar's own syntax. The next file may follow.
     Text,
-    /// A text of JSON, which no file follows: its schema, or none where its faults were shown.
+    /// A text of JSON, which no file follows: its schema, or none if its faults were shown.
     Whole(Option<ValidatorSchema>),
 }
 
 impl<'a> SchemaFiles<'a> {
-    /// Of these names, of which no text was taken in yet.
+    /// The files of these names, of which no text was taken in yet.
     pub fn new(alloc: Global, names: &'a [String], syntax: Option<Syntax>) -> SchemaFiles<'a> {
         SchemaFiles {
             names,
@@ -63,7 +63,7 @@ impl<'a> SchemaFiles<'a> {
         Ok(Taken::Whole(None))
     }
 
-    /// The schema of all texts, or `None` where their faults were shown.
+    /// The schema of all texts, or `None` if their faults were shown.
     pub fn schema(
         self,
         alloc: Global,

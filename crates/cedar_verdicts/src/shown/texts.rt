@@ -1,4 +1,4 @@
-//! What is said of texts that are read alone, of links and of data, as an output shows it.
+//! Verdicts on texts that are only read, on links and on data, as an output shows them.
 use crate::data::{DataKind, judge_data};
 use crate::links::Links;
 use crate::parses::parse_policies;
@@ -28,7 +28,7 @@ pub fn show_parsed(
     Ok(())
 }
 
-/// The links of a file: none where it has a fault, which is shown.
+/// The links of a file: none if it has a fault, which is shown.
 pub fn links_of(
     alloc: Global,
     source: Source<'_>,
@@ -43,7 +43,7 @@ pub fn links_of(
     }
 }
 
-/// Shows the links of the file of this name, if there is one, that made no policy.
+/// Shows the faults of the links in the file of this name, if there is one.
 pub fn show_unmade(
     alloc: Global,
     name: &Option<String>,

@@ -1,7 +1,7 @@
 use Rattle.std.proofs.Common.{◌≡◌, ◌||◌, Bool, true, false, not, refl, true≢false}
 use Rattle.cedar_verdicts.proofs.requirements.requirement.Goals as goal
 
--- a policy passes, where nothing is said if the mode has no levels or the policy does not pass
+-- a requirement is given only if the mode has levels and the policy passes
 passed : (has passes : Bool) → (not has || not passes) ≡ false → passes ≡ true
 passed has true h = refl
 passed true false h = absurd (true≢false h)

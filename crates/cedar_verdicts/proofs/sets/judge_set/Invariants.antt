@@ -6,7 +6,7 @@ use Rattle.cedar_verdicts.specs.Sets.{AreVerdictsOn, has_policy}
 use Rattle.cedar_verdicts.specs.Verdicts.{basis_of}
 use Rattle.cedar_verdicts.proofs.sets.judge_set.Given as goal
 
--- the ids so far are known, and a verdict is said of each policy so far
+-- the ids of the policies so far are known, and each policy so far has its verdict
 abbrev pub invariant-loop-policy : goal.invariant-loop-policy
 invariant-loop-policy g l = record {
   known : (t : Text) → has_id l.judge.ids t ≡ has_policy (map template_of (take l.policy-index l.policies)) t;

@@ -2,7 +2,7 @@ use Rattle.std.proofs.Common.{◌∙◌, ◌&&◌, is_some, length, sym, subst, 
 use Rattle.cedar_types.specs.Templates.{template_of}
 use Rattle.cedar_typechecker.specs.Levels.Required.{IsRequiredLevel}
 use Rattle.cedar_verdicts.specs.Verdicts.{basis_of}
-use Rattle.cedar_verdicts.proofs.Decided.{passes_without, promised_still, some_cause, twice_not}
+use Rattle.cedar_verdicts.proofs.Decided.{no_cause, passes_without, promised_still, some_cause, twice_not}
 use Rattle.cedar_verdicts.proofs.verdicts.judge_in_set.Goals as goal
 
 pub returns-clause-right : goal.returns-clause-right
@@ -30,8 +30,12 @@ returns-clause-whole g c =
       surveyed = found.1;
       accepted = λ i. found.2 i && new i;
       refused = λ h.
-          c.in_ok-errors.ensures (omega arith)
+          c.in_ok-errors.ensures.some (omega arith)
           (some_cause c.in_ok-found.found.is_accepted c.is_none.result (is_some c.args.same_id)
           (length c.in_ok-causes.causes.items) c.is_none.ensures causes.refused causes.repeated h);
+      clean = λ h.
+          c.in_ok-errors.ensures.none
+          (no_cause c.in_ok-found.found.is_accepted c.is_none.result (is_some c.args.same_id)
+          (length c.in_ok-causes.causes.items) new causes.none h);
       said = λ nothing sound. c.in_ok-requirement.ensures.said sound (found.2 ∙ nothing);
     }

@@ -1,0 +1,8 @@
+//! Which verdicts texts of policies and data have, and which answers calls. The tests stand apart from those of texts, which need
+//! not wait for verdicts to be proved.
+#![tactic(auto)]
+
+#[cfg(test)]
+mod calls_tests;
+#[cfg(test)]
+mod verdicts_tests;
