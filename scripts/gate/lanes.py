@@ -3,11 +3,12 @@
 
 `rt ci` reckons the memory of a proof by lines, for the largest crates more than twice of the memory that they take, so that
 processors idle. With RT_JOBS it makes as many proofs at once as that says, but each by one job, and the lowest crate, for which
-all others wait, then takes twice as long. So the one function by which `rt` chooses is replaced here, if its text is the one
-that is known: each proof gets the processors that no other proof waits for, as far as memory allows, unless the machine keeps
-the very proof (scripts/gate/kept.py). Nothing else that proves or counts is touched. A kit in which the function has another
-text is run with RT_JOBS. Such a kit keeps proofs itself, so it proves the lowest crate before, alone, with several jobs. It
-takes the name of a crate only where CI is not set, because by names it is not the gate; the gate is the call behind it.
+all others wait, then takes twice as long. So the one function by which `rt` chooses is replaced here, if its text is one that
+is known: each proof gets the processors that no other proof waits for, as far as memory allows, unless the machine keeps the
+very proof (by the kit's own store, or by scripts/gate/kept.py if the kit has none). Nothing else that proves or counts is
+touched. A kit in which the function has another text is run with RT_JOBS, and proves the lowest crate before, alone, with
+several jobs. It takes the name of a crate only where CI is not set, because by names it is not the gate; the gate is the call
+behind it.
 """
 import hashlib
 import os
@@ -21,8 +22,11 @@ sys.path.insert(0, str(Path(__file__).resolve().parent.parent))
 import unproved  # noqa: E402
 from gate.kept import Kept  # noqa: E402
 
-# The sum of the text of `in_lanes` in `rt`.
-KNOWN = "747d681e6b3bcd32dfecce2c9eb0a72ba1118e8990b2f6fe40cfa09ecaa8fab0"
+# The sums of the texts of `in_lanes` in `rt` that are known.
+KNOWN = {
+    "747d681e6b3bcd32dfecce2c9eb0a72ba1118e8990b2f6fe40cfa09ecaa8fab0",
+    "028904d9e05eb37c3447d3ea1ec332cd6baf038bc4ea1e2cc2cde78c52924205",
+}
 # A proof takes at most so many bytes, and so many more for each line of code or of tests, as was seen of each crate.
 LEAST = 1_200_000_000
 LINE = {"proof": 850_000, "tests": 1_400_000, "edits": 850_000}
@@ -66,7 +70,7 @@ def ready_of(tasks, left, given):
 def memory_of(part, task):
     """The memory that a proof takes: `rt` reckons with more of the crates that have many lemmas."""
     _, lines, reckoned, _ = task
-    return min(reckoned, LEAST + LINE[part] * lines)
+    return min(reckoned, LEAST + LINE[part] * lines) if part in LINE else reckoned
 
 
 def jobs_of(idle, others, room):
@@ -110,14 +114,15 @@ def memory_beside(free):
 def is_known(text):
     """Whether a text of `rt` chooses by the function that is known."""
     found = re.search(r"^def in_lanes\(.*?\n(?=\S)", text, re.M | re.S)
-    return found is not None and hashlib.sha256(found[0].strip().encode()).hexdigest() == KNOWN
+    return found is not None and hashlib.sha256(found[0].strip().encode()).hexdigest() in KNOWN
 
 
 def main():
     if is_known((unproved.kit() / "bin" / "rt").read_text(encoding="utf8", errors="replace")):
         rt = unproved.module_of_kit("rt")
-        kept = Kept(os.getcwd())
-        rt.in_lanes = lambda tasks: side_by_side(kept.over(tasks), rt.processors(), memory_beside(rt.free()))
+        # (a kit that has a store keeps proofs itself)
+        over = (lambda tasks: tasks) if hasattr(rt, "STORE") else Kept(os.getcwd()).over
+        rt.in_lanes = lambda tasks: side_by_side(over(tasks), rt.processors(), memory_beside(rt.free()))
         return rt.main(["ci"])
     # (a crate that fails here fails again below, and is counted there)
     subprocess.run(["rt", "ci", next(iter(unproved.USES))], env={it: value for it, value in os.environ.items() if it != "CI"})
