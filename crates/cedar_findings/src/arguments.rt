@@ -1,4 +1,5 @@
 //! Arguments of a call, as the words of the command line give them.
+use crate::columns::Columns;
 pub use crate::command_lines::read_arguments;
 use crate::formats::Format;
 use crate::lines::Lines;
@@ -38,6 +39,8 @@ pub struct Arguments {
     /// The number of entities that a policy may dereference one after another; any number if there is none.
     pub level: Option<u32>,
     pub format: Format,
+    /// The unit of the columns of places.
+    pub columns: Columns,
     /// The syntax of all files; none if their first characters tell it.
     pub syntax: Option<Syntax>,
     /// The syntax of the schema's files, and that of the policies' files; if none is given, the syntax of all files.
@@ -83,6 +86,7 @@ impl Arguments {
             mode: ValidationMode::Strict,
             level: None,
             format: Format::Lines(Lines),
+            columns: Columns::Characters,
             syntax: None,
             schema_syntax: None,
             policy_syntax: None,
@@ -134,6 +138,11 @@ impl Arguments {
                 self.format = format.unwrap_or(self.format);
                 format.is_some()
             }
+            ValueOption::Columns => {
+                let columns = Columns::by_name(value);
+                self.columns = columns.unwrap_or(self.columns);
+                columns.is_some()
+            }
             ValueOption::Input => {
                 self.syntax = Syntax::by_name(value);
                 self.syntax.is_some()
@@ -175,6 +184,9 @@ impl Arguments {
     pub(crate) fn misuse(&self) -> Option<Misuse> {
         if self.mode == ValidationMode::Partial && self.level.is_some() {
             return Some(Misuse::LevelInPartial);
+        }
+        if self.columns == Columns::Bytes && matches!(self.format, Format::Sarif(_)) {
+            return Some(Misuse::BytesInSarif);
         }
         let has_data = self.entities.is_some() || self.request.is_some();
         let misuse = match self.task {

@@ -1,5 +1,6 @@
 //! Changes for the policies of a file, in the format that the caller asks for.
 use crate::changes::{Comparison, Whose, push_change, push_gone};
+use crate::columns::Columns;
 use crate::findings::{Finding, Verdict};
 use crate::formats::Format;
 use crate::places::Places;
@@ -11,16 +12,26 @@ use std::alloc::{AllocError, Global};
 /// A report of changes for the policies of a file.
 #[derive(Drop)]
 pub struct ChangeReport<'a> {
+    columns: Columns,
     source: Source<'a>,
     places: Places<'a>,
 }
 
 impl<'a> ChangeReport<'a> {
-    /// A report on this file. Its places have an index, because findings that came and findings that went are not in one order.
-    pub fn new(alloc: Global, source: Source<'a>) -> Result<ChangeReport<'a>, AllocError> {
-        let mut places = Places::new(alloc, source.text);
+    /// A report on this file, with columns in this unit. Its places have an index, because findings that came and findings that
+    /// went are not in one order.
+    pub fn new(
+        alloc: Global,
+        columns: Columns,
+        source: Source<'a>,
+    ) -> Result<ChangeReport<'a>, AllocError> {
+        let mut places = Places::new(alloc, source.text, columns);
         places.index()?;
-        Ok(ChangeReport { source, places })
+        Ok(ChangeReport {
+            columns,
+            source,
+            places,
+        })
     }
 
     /// The file of the report.
@@ -70,7 +81,12 @@ impl<'a> ChangeReport<'a> {
 
     fn place(&mut self, loc: Loc) -> Place<'a> {
         let at = self.places.position(loc.start);
-        let source = self.source;
-        Place { source, loc, at }
+        let (source, columns) = (self.source, self.columns);
+        Place {
+            source,
+            loc,
+            at,
+            columns,
+        }
     }
 }

@@ -1,7 +1,7 @@
 //! The line of a place behind its number, with carets below it.
+use crate::columns::is_first_of_character;
 use crate::digits::push_number;
 use crate::escapes::{is_plain, push_shown, shown_width};
-use crate::places::is_first_of_character;
 use cedar_types::base::Loc;
 use std::alloc::AllocError;
 

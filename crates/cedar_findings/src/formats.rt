@@ -1,4 +1,5 @@
 //! Formats of findings. Each is a file with a `FindingsWriter`, and a line of each list here.
+use crate::columns::Columns;
 use crate::lines::Lines;
 use crate::objects::Objects;
 use crate::sarif::Sarif;
@@ -25,6 +26,14 @@ impl Format {
             "json" => Some(Format::Objects(Objects)),
             "sarif" => Some(Format::Sarif(Sarif::new())),
             _ => None,
+        }
+    }
+
+    /// This format with columns in a unit: only SARIF says which unit it has.
+    pub(crate) fn with_columns(self, columns: Columns) -> Format {
+        match self {
+            Format::Sarif(_) => Format::Sarif(Sarif::with_columns(columns)),
+            other => other,
         }
     }
 }

@@ -6,6 +6,7 @@ pub mod change_reports;
 pub mod changes;
 pub mod codes;
 pub mod colours;
+pub mod columns;
 mod command_lines;
 pub mod completions;
 pub mod data_findings;

@@ -15,6 +15,10 @@ pub enum Misuse {
     LevelInPartial,
     #[error("`--format` takes `lines`, `json` or `sarif`")]
     Format,
+    #[error("`--columns` takes `characters`, `utf16` or `bytes`")]
+    Columns,
+    #[error("SARIF has no columns in bytes: `--format sarif` goes with `--columns characters` or `utf16`")]
+    BytesInSarif,
     #[error("`--input` takes `text` or `json`")]
     Input,
     #[error("`--schema-format` takes `cedar` or `json`")]

@@ -11,6 +11,7 @@ pub enum ValueOption {
     Mode,
     Level,
     Format,
+    Columns,
     Input,
     SchemaFormat,
     PolicyFormat,
@@ -65,6 +66,8 @@ const MODES: Values = Values::OneOf(&["strict", "permissive", "partial"]);
 
 const FORMATS: Values = Values::OneOf(&["lines", "json", "sarif"]);
 
+const COLUMNS: Values = Values::OneOf(&["characters", "utf16", "bytes"]);
+
 const INPUTS: Values = Values::OneOf(&["text", "json"]);
 
 const SYNTAXES: Values = Values::OneOf(&["cedar", "json"]);
@@ -72,7 +75,7 @@ const SYNTAXES: Values = Values::OneOf(&["cedar", "json"]);
 const SHELLS: Values = Values::OneOf(&["bash", "zsh", "fish"]);
 
 /// All options, in the order of the help.
-pub const WORDS: [Word; 22] = [
+pub const WORDS: [Word; 23] = [
     Word {
         names: &["-s", "--schema"],
         asks: Asks::Value(ValueOption::Schema, Values::File),
@@ -127,6 +130,11 @@ pub const WORDS: [Word; 22] = [
         names: &["--json"],
         asks: Asks::Flag(Flag::Json),
         about: "the same as --format json",
+    },
+    Word {
+        names: &["--columns"],
+        asks: Asks::Value(ValueOption::Columns, COLUMNS),
+        about: "the unit of columns; characters without this option",
     },
     Word {
         names: &["-q", "--quiet"],
@@ -210,6 +218,7 @@ impl ValueOption {
             ValueOption::Mode => Misuse::Mode,
             ValueOption::Level => Misuse::Level,
             ValueOption::Format => Misuse::Format,
+            ValueOption::Columns => Misuse::Columns,
             ValueOption::Input => Misuse::Input,
             ValueOption::SchemaFormat => Misuse::SchemaFormat,
             ValueOption::PolicyFormat => Misuse::PolicyFormat,

@@ -3,6 +3,7 @@
 use crate::arguments::Task;
 use crate::changes::{ChangeTally, push_tally};
 use crate::colours::{Colours, painted};
+use crate::columns::Columns;
 use crate::faults::TextFault;
 use crate::formats::Format;
 use crate::lines::Lines;
@@ -17,6 +18,8 @@ use std::io;
 #[derive(Drop)]
 pub struct Output {
     pub format: Format,
+    /// The unit of the columns of places.
+    pub columns: Columns,
     /// Whether the output leaves out accepted policies without a finding, and the counts.
     pub is_quiet: bool,
     pub totals: Totals,
@@ -30,6 +33,7 @@ impl Output {
     pub fn new(alloc: Global, colours: Colours) -> Output {
         Output {
             format: Format::Lines(Lines),
+            columns: Columns::Characters,
             is_quiet: false,
             totals: Totals::default(),
             changes: ChangeTally::default(),
@@ -48,9 +52,16 @@ impl Output {
         self.shown.clear();
     }
 
-    /// Shows the beginning of the output.
-    pub fn begin(&mut self, alloc: Global, format: Format) -> Result<(), AllocError> {
-        self.format = format;
+    /// Shows the beginning of the output, in a format and with columns in a unit. SARIF says the unit, so it must be one that
+    /// SARIF has a word for.
+    pub fn begin(
+        &mut self,
+        alloc: Global,
+        format: Format,
+        columns: Columns,
+    ) -> Result<(), AllocError> {
+        self.format = format.with_columns(columns);
+        self.columns = columns;
         let mut shown = String::new(alloc);
         self.format.begin(&mut shown)?;
         self.shown.push_str(shown.as_str())
@@ -74,7 +85,8 @@ impl Output {
         source: Source<'_>,
         fault: &TextFault,
     ) -> Result<(), AllocError> {
-        let found = render_fault(alloc, &mut self.format, source, fault)?;
+        let columns = self.columns;
+        let found = render_fault(alloc, &mut self.format, columns, source, fault)?;
         self.show(alloc, source.name, found.as_str())
     }
 

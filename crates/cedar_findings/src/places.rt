@@ -1,5 +1,6 @@
 //! Lines and columns of bytes in a text. It is fast for bytes in ascending order, or nearly so; an index makes it fast for any
 //! order.
+use crate::columns::Columns;
 use cedar_reading::Position;
 use memchr::memchr_iter;
 use std::alloc::{AllocError, Global};
@@ -12,6 +13,7 @@ const STEP: usize = 4096;
 #[derive(Drop)]
 pub struct Places<'a> {
     text: &'a str,
+    columns: Columns,
     at: usize,
     position: Position,
     /// The first character at or behind each multiple of `STEP`, with its position, if there is an index.
@@ -26,10 +28,11 @@ struct Mark {
 }
 
 impl<'a> Places<'a> {
-    /// A finder at the beginning of this text.
-    pub fn new(alloc: Global, text: &'a str) -> Places<'a> {
+    /// A finder at the beginning of this text, which counts columns in this unit.
+    pub fn new(alloc: Global, text: &'a str, columns: Columns) -> Places<'a> {
         Places {
             text,
+            columns,
             at: 0,
             position: BEGINNING,
             marks: Vec::new(alloc),
@@ -45,12 +48,12 @@ impl<'a> Places<'a> {
                 self.marks.push(Mark { at, position })?;
                 next = next.saturating_add(STEP);
             }
-            position = behind(position, c);
+            position = behind(position, c, self.columns);
         }
         Ok(())
     }
 
-    /// The position of a byte. A line ends with `\n`, and a column counts characters, a tab as one.
+    /// The position of a byte. A line ends with `\n`.
     pub fn position(&mut self, byte: usize) -> Position {
         let mark = self.mark_before(byte);
         if byte < self.at || self.at < mark.at {
@@ -59,7 +62,7 @@ impl<'a> Places<'a> {
         }
         let passed = self.text.get(self.at..byte).unwrap_or("");
         self.at = byte;
-        self.position = position_behind(self.position, passed);
+        self.position = position_behind(self.position, passed, self.columns);
         self.position
     }
 
@@ -82,8 +85,8 @@ impl<'a> Places<'a> {
 /// The position where a text begins.
 const BEGINNING: Position = Position { line: 1, column: 1 };
 
-/// The position behind this text, which begins at `start`.
-pub fn position_behind(start: Position, text: &str) -> Position {
+/// The position behind this text, which begins at `start`, with columns in this unit.
+pub fn position_behind(start: Position, text: &str, columns: Columns) -> Position {
     let bytes = text.as_bytes();
     let mut position = start;
     let mut begun = 0usize;
@@ -93,25 +96,12 @@ pub fn position_behind(start: Position, text: &str) -> Position {
         begun = end.saturating_add(1);
     }
     let last = bytes.get(begun..).unwrap_or(&[]);
-    position.column = position.column.saturating_add(characters(last));
+    position.column = position.column.saturating_add(columns.of_bytes(last));
     position
 }
 
-/// How many characters these bytes have.
-fn characters(bytes: &[u8]) -> usize {
-    bytes
-        .iter()
-        .filter(|byte| is_first_of_character(**byte))
-        .count()
-}
-
-/// Whether a byte of UTF-8 is the first of its character: the others are 0x80 to 0xbf.
-pub(crate) fn is_first_of_character(byte: u8) -> bool {
-    byte & 0xc0 != 0x80
-}
-
 /// The position behind a character.
-fn behind(position: Position, c: char) -> Position {
+fn behind(position: Position, c: char, columns: Columns) -> Position {
     if c == '\n' {
         return Position {
             line: position.line.saturating_add(1),
@@ -120,6 +110,6 @@ fn behind(position: Position, c: char) -> Position {
     }
     Position {
         line: position.line,
-        column: position.column.saturating_add(1),
+        column: position.column.saturating_add(columns.of_char(c)),
     }
 }

@@ -1,5 +1,6 @@
 //! Findings in a file, in the format that the caller asks for.
 use crate::codes::Code;
+use crate::columns::Columns;
 use crate::data_findings::DataVerdict;
 use crate::faults::TextFault;
 use crate::findings::{Finding, Severity, Verdict};
@@ -17,17 +18,19 @@ const LINE: usize = 128;
 #[derive(Drop)]
 pub struct Report<'a> {
     format: Format,
+    columns: Columns,
     source: Source<'a>,
     places: Places<'a>,
 }
 
 impl<'a> Report<'a> {
-    /// A report on this file, in this format.
-    pub fn new(alloc: Global, format: Format, source: Source<'a>) -> Report<'a> {
+    /// A report on this file, in this format and with columns in this unit.
+    pub fn new(alloc: Global, format: Format, columns: Columns, source: Source<'a>) -> Report<'a> {
         Report {
             format,
+            columns,
             source,
-            places: Places::new(alloc, source.text),
+            places: Places::new(alloc, source.text, columns),
         }
     }
 
@@ -46,6 +49,7 @@ impl<'a> Report<'a> {
             source: self.source,
             loc,
             at: self.places.position(loc.start),
+            columns: self.columns,
         }
     }
 
@@ -132,10 +136,11 @@ fn loc_of(policy: &Template) -> Loc {
 pub fn render_fault(
     alloc: Global,
     format: &mut Format,
+    columns: Columns,
     source: Source<'_>,
     fault: &TextFault,
 ) -> Result<String, AllocError> {
-    let mut report = Report::new(alloc, *format, source);
+    let mut report = Report::new(alloc, *format, columns, source);
     let shown = report.fault_shown(alloc, fault)?;
     *format = report.format();
     Ok(shown)

@@ -1,5 +1,6 @@
 //! Findings as SARIF 2.1.0, one object of JSON for all: code hosts show it beside the lines.
 use crate::codes::{CODES, Code};
+use crate::columns::Columns;
 use crate::data_findings::DataFinding;
 use crate::findings::{Finding, Severity};
 use crate::json::JsonWriter;
@@ -17,11 +18,12 @@ const SCHEMA: &str = "https://json.schemastore.org/sarif-2.1.0.json";
 #[derive(Clone, Copy)]
 pub struct Sarif {
     json: JsonWriter,
+    columns: Columns,
 }
 
 impl FindingsWriter for Sarif {
     fn begin(&mut self, out: &mut String) -> Result<(), AllocError> {
-        add_beginning(&mut self.json, out)
+        add_beginning(&mut self.json, out, column_kind(self.columns))
     }
 
     fn add(&mut self, out: &mut String, entry: Entry<'_>) -> Result<(), AllocError> {
@@ -64,16 +66,34 @@ impl FindingsWriter for Sarif {
 }
 
 impl Sarif {
-    /// A writer that has written nothing yet.
+    /// A writer that has written nothing yet. Its columns count characters.
     pub fn new() -> Sarif {
+        Sarif::with_columns(Columns::Characters)
+    }
+
+    /// A writer that has written nothing yet, with columns in this unit.
+    pub(crate) fn with_columns(columns: Columns) -> Sarif {
         Sarif {
             json: JsonWriter::new(),
+            columns,
         }
     }
 }
 
-/// Adds the part before the results.
-fn add_beginning(json: &mut JsonWriter, out: &mut String) -> Result<(), AllocError> {
+/// The word of SARIF for a unit of columns. It has none for bytes, so the command line refuses these two together.
+fn column_kind(columns: Columns) -> &'static str {
+    match columns {
+        Columns::Utf16 => "utf16CodeUnits",
+        Columns::Characters | Columns::Bytes => "unicodeCodePoints",
+    }
+}
+
+/// Adds the part before the results, which says the kind of the columns.
+fn add_beginning(
+    json: &mut JsonWriter,
+    out: &mut String,
+    column_kind: &str,
+) -> Result<(), AllocError> {
     json.begin_object(out)?;
     json.text_at(out, "$schema", SCHEMA)?;
     json.text_at(out, "version", "2.1.0")?;
@@ -96,7 +116,7 @@ fn add_beginning(json: &mut JsonWriter, out: &mut String) -> Result<(), AllocErr
     json.end_object(out)?;
     json.end_object(out)?;
     json.begin_line(out)?;
-    json.text_at(out, "columnKind", "unicodeCodePoints")?;
+    json.text_at(out, "columnKind", column_kind)?;
     json.key(out, "results")?;
     json.begin_list(out)
 }

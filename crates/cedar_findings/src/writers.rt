@@ -1,4 +1,5 @@
 //! Writers of findings: a format writes its beginning, each entry, and its end.
+use crate::columns::Columns;
 use crate::data_findings::DataFinding;
 use crate::escapes::Shown;
 use crate::findings::{Finding, Severity, Verdict};
@@ -17,13 +18,16 @@ pub struct Place<'a> {
     pub loc: Loc,
     /// The position of its beginning.
     pub at: Position,
+    /// The unit of its columns.
+    pub columns: Columns,
 }
 
 impl Place<'_> {
     /// The position right behind the place, which takes a reading of the text that it covers.
     pub fn end(&self) -> Position {
         let Loc { start, end } = self.loc;
-        position_behind(self.at, self.source.text.get(start..end).unwrap_or(""))
+        let covered = self.source.text.get(start..end).unwrap_or("");
+        position_behind(self.at, covered, self.columns)
     }
 }
 

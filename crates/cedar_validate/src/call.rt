@@ -30,7 +30,9 @@ impl<R: Files + AllocGlobal + Input, O: Write, T: Write> Call<'_, R, O, T> {
     /// Performs the task of the arguments, and answers the exit status.
     pub fn perform(&mut self, arguments: &Arguments) -> io::Result<u8> {
         self.output.is_quiet = arguments.is_quiet;
-        self.output.begin(self.rt.alloc(), arguments.format)?;
+        let alloc = self.rt.alloc();
+        self.output
+            .begin(alloc, arguments.format, arguments.columns)?;
         let done = match arguments.task {
             Task::Validation => self.validate(arguments),
             Task::Comparison => self.compare(arguments),

@@ -8,6 +8,7 @@ use cedar_data::{
 };
 use cedar_extensions::checks::Constructor;
 use cedar_findings::codes::Code;
+use cedar_findings::columns::Columns;
 use cedar_findings::data_findings::{DataFinding, DataVerdict};
 use cedar_findings::faults::{TextFault, Written};
 use cedar_findings::json_faults::form_fault;
@@ -109,7 +110,7 @@ fn verdict_of(
     text: &str,
     found: &Found,
 ) -> Result<DataVerdict, AllocError> {
-    let mut places = Places::new(alloc, text);
+    let mut places = Places::new(alloc, text, Columns::Characters);
     let mut findings = Vec::new(alloc);
     for fault in found.faults.listed() {
         findings.push(finding_of(alloc, &mut places, schema, text, fault)?)?;

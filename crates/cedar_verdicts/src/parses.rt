@@ -3,6 +3,7 @@ use crate::causes::place_of;
 use crate::ids::Ids;
 use crate::policies::{Policies, Read};
 use crate::texts::MAX_FAULTS;
+use cedar_findings::columns::Columns;
 use cedar_findings::faults::TextFault;
 use cedar_findings::places::Places;
 use cedar_findings::syntaxes::Syntax;
@@ -94,7 +95,9 @@ impl Parsed {
             self.policies = self.policies.saturating_add(1);
             return Ok(());
         };
-        let Position { line, column } = Places::new(alloc, text).position(first);
+        let Position { line, column } = Places::new(alloc, text, Columns::Characters).position(
+            first,
+        );
         self.faults.push(TextFault {
             place,
             text: format!(in alloc; "the policy at {line}:{column} of this file has the same id")?,

@@ -10,6 +10,7 @@ use crate::causes::place_of;
 use crate::ids::Ids;
 use crate::settings::Settings;
 use crate::verdicts::judge_in_set;
+use cedar_findings::columns::Columns;
 use cedar_findings::findings::Verdict;
 use cedar_findings::marks::{Marked, marked_parts};
 use cedar_findings::places::Places;
@@ -37,7 +38,7 @@ impl<'a> SetJudge<'a> {
         SetJudge {
             ids: Ids::new(alloc),
             examples,
-            places: Places::new(alloc, text),
+            places: Places::new(alloc, text, Columns::Characters),
             has_index: false,
         }
     }

@@ -1,6 +1,7 @@
 // Arguments in the words of a command line.
 use crate::findings_tests::cases::check;
 use cedar_findings::arguments::{Arguments, Asked, read_arguments};
+use cedar_findings::columns::Columns;
 use cedar_findings::formats::Format;
 use cedar_findings::syntaxes::Syntax;
 use cedar_types::base::ValidationMode;
@@ -8,7 +9,7 @@ use std::alloc::{AllocError, Global};
 use std::test::Fail;
 
 /// Command lines, and what they ask for or what is wrong with them.
-const LINES: [(&str, &str); 54] = [
+const LINES: [(&str, &str); 60] = [
     (
         "--schema s p --schema=t q",
         "strict, no level, lines: s, t, p, q, 2 schemas",
@@ -129,6 +130,27 @@ const LINES: [(&str, &str); 54] = [
         "standard input, `-`, can be read once",
     ),
     ("--entity e s p", "there is no option `--entity`"),
+    ("--columns utf16 s p", "strict, no level, lines in utf16: s, p"),
+    (
+        "s p --json --columns=bytes",
+        "strict, no level, objects in bytes: s, p",
+    ),
+    (
+        "--columns bytes --columns characters s p",
+        "strict, no level, lines: s, p",
+    ),
+    (
+        "--columns tabs s p",
+        "`--columns` takes `characters`, `utf16` or `bytes`",
+    ),
+    (
+        "--columns bytes s p --format sarif",
+        "SARIF has no columns in bytes: `--format sarif` goes with `--columns characters` or `utf16`",
+    ),
+    (
+        "--columns utf16 s p --format sarif",
+        "strict, no level, sarif in utf16: s, p",
+    ),
 ];
 
 /// The arguments of a command line, in words.
@@ -159,9 +181,14 @@ fn show_arguments(alloc: Global, line: &str) -> Result<String, Fail> {
         Some(Syntax::Json) => ", in json",
     })?;
     got.push_str(match arguments.format {
-        Format::Lines(_) => ", lines: ",
-        Format::Objects(_) => ", objects: ",
-        Format::Sarif(_) => ", sarif: ",
+        Format::Lines(_) => ", lines",
+        Format::Objects(_) => ", objects",
+        Format::Sarif(_) => ", sarif",
+    })?;
+    got.push_str(match arguments.columns {
+        Columns::Characters => ": ",
+        Columns::Utf16 => " in utf16: ",
+        Columns::Bytes => " in bytes: ",
     })?;
     push_files(&mut got, &arguments)?;
     if arguments.schemas.len() > 1 {

@@ -1,5 +1,6 @@
 // Objects of JSON, in which no text by another writer ends a text or a line.
 use cedar_findings::codes::Code;
+use cedar_findings::columns::Columns;
 use cedar_findings::data_findings::DataFinding;
 use cedar_findings::findings::{Finding, Requirement, Severity, Verdict};
 use cedar_findings::objects::Objects;
@@ -19,6 +20,7 @@ const PLACE: Place<'static> = Place {
     },
     loc: Loc { start: 0, end: 1 },
     at: Position { line: 3, column: 7 },
+    columns: Columns::Characters,
 };
 
 const POLICIES: &str = r#"

@@ -2,6 +2,7 @@
 use cedar_findings::arguments::Task;
 use cedar_findings::changes::{Change, Comparison};
 use cedar_findings::colours::Colours;
+use cedar_findings::columns::Columns;
 use cedar_findings::faults::TextFault;
 use cedar_findings::formats::Format;
 use cedar_findings::outputs::Output;
@@ -25,7 +26,7 @@ fn begun(alloc: Global, colours: Colours, name: &str) -> Result<Option<Output>, 
     let Some(format) = Format::by_name(name) else {
         return Ok(None);
     };
-    output.begin(alloc, format)?;
+    output.begin(alloc, format, Columns::Characters)?;
     Ok(Some(output))
 }
 

@@ -1,5 +1,6 @@
 // Reports of a policy with more findings than are shown.
 use cedar_findings::codes::Code;
+use cedar_findings::columns::Columns;
 use cedar_findings::findings::{Finding, Requirement, Verdict};
 use cedar_findings::formats::Format;
 use cedar_findings::reports::Report;
@@ -73,7 +74,7 @@ fn describe(alloc: Global, count: usize, others: usize, name: &str) -> Result<St
         name: "f",
         text: TEXT,
     };
-    let mut report = Report::new(alloc, format, source);
+    let mut report = Report::new(alloc, format, Columns::Characters, source);
     let mut policies = Policies::new(alloc, TEXT)?;
     let Some(read) = policies.next_policy() else {
         return Ok(String::new(alloc));

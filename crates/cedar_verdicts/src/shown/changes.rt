@@ -36,7 +36,7 @@ impl<'a> ShownChanges<'a> {
         let functions = settings.new.validator.extensions();
         match Comparisons::new(alloc, functions, &text)? {
             Ok(compared) => {
-                let report = ChangeReport::new(alloc, source)?;
+                let report = ChangeReport::new(alloc, output.columns, source)?;
                 Ok(Some(ShownChanges { compared, report }))
             }
             Err(fault) => {

@@ -42,7 +42,7 @@ impl<'a> ShownPolicies<'a> {
                 return Ok(None);
             }
         };
-        let mut report = Report::new(alloc, output.format, source);
+        let mut report = Report::new(alloc, output.format, output.columns, source);
         if text.is_json() {
             report.index_places()?;
         }

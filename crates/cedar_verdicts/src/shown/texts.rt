@@ -73,7 +73,7 @@ pub fn show_data(
 ) -> Result<(), AllocError> {
     let verdict = judge_data(alloc, schema, kind, source.text)?;
     output.totals.add_data(&verdict);
-    let mut report = Report::new(alloc, output.format, source);
+    let mut report = Report::new(alloc, output.format, output.columns, source);
     let shown = report.data_shown(alloc, &verdict)?;
     output.format = report.format();
     output.show(alloc, source.name, shown.as_str())

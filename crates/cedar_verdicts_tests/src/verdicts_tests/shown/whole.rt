@@ -1,6 +1,7 @@
 // What is shown of all texts of a call, in a format.
 use crate::verdicts_tests::asked::cedar_functions;
 use cedar_findings::colours::Colours;
+use cedar_findings::columns::Columns;
 use cedar_findings::formats::Format;
 use cedar_findings::outputs::Output;
 use cedar_findings::sources::Source;
@@ -49,7 +50,7 @@ pub fn output_in(
         panic!(rt; "there is a format {format}");
     };
     let mut output = Output::new(alloc, Colours::None);
-    output.begin(alloc, format)?;
+    output.begin(alloc, format, Columns::Characters)?;
     match schema_shown(alloc, texts.schema, &mut output)? {
         None => output.totals.add_missing_schema(),
         Some(schema) => show_texts(alloc, schema, texts, &mut output)?,
