@@ -4,7 +4,8 @@
 The parts are `texts`, what no compiler reads; `pieces`, the pieces of examples/borrows; `tests`, each #[test]; `programs`,
 each program on its data, as `rt ci` runs it, and `product`, cedar-validate likewise, and each of its words and pairs; `refused`, calls and rows while memory is
 refused; `queries`, where-clauses in SQLite; `applications`, all that cedar-validate says of whole applications and of odd
-texts; and `callers`, the C library called from other languages, of which those that the machine has not are skipped.
+texts; `callers`, the C library called from other languages; and `editors`, the language server as editors use it. Languages and
+editors that the machine has not are skipped.
 Without words all run, side by side where processors are free.
 
 The programs are built without a proof (scripts/unproved.py) and kept, so that a second run builds nothing where no text
@@ -147,17 +148,25 @@ def applications():
     return good + is_stamped, bad + (not is_stamped)
 
 
-def callers():
-    said, status = ran(TOP / "scripts" / "caller_cases.py", cwd=TOP)
+def of_skipping_script(name):
+    """As `of_script`, of a script that skips what the machine has not: this has to be seen."""
+    said, status = ran(TOP / "scripts" / name, cwd=TOP)
     found = COUNT.search(said)
     good, bad = map(int, found.groups()) if found else (0, 1)
-    # (a language that is skipped has to be seen)
     show(said if bad or status else "".join(line for line in said.splitlines(True) if "skipped" in line))
     return good, bad or int(status != 0)
 
 
+def callers():
+    return of_skipping_script("caller_cases.py")
+
+
+def editors():
+    return of_skipping_script("editor_cases.py")
+
+
 # The parts in the order in which they begin. Those that wait for one build stand in one line, one after another.
-LINES = ((programs, refused, queries), (tests,), (product, applications, callers), (pieces, texts))
+LINES = ((programs, refused, queries, editors), (tests,), (product, applications, callers), (pieces, texts))
 PARTS = {part.__name__: part for line in LINES for part in line}
 
 

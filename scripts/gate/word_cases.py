@@ -35,7 +35,7 @@ FILES = {
     "p": '@id("a") permit(principal, action, resource);\n',
     "q": '@id("a") permit(principal, action == Action::"view", resource);\n@id("b") permit(principal, action, resource);\n',
     "refused": '@id("r") permit(principal, action, resource) when { resource.size > 1 };\n',
-    "wide": 'permit(principal, action, resource)\nwhen { "\u00e4\U0001d4b3" == "\t" && resource.size > 1 };\n',
+    "wide": 'permit(principal, action, resource)\nwhen { "\u00e4\U0001f44d" == "\u00e4\U0001f44d" && resource.size > 1 };\n',
     "broken": '@id("x") permit(principal);\n@id("y") permit(principal, action, resource);\n',
     "twice": '@id("x") permit(principal, action, resource);\n@id("x") forbid(principal, action, resource);\n',
     "t": '@id("share") permit(principal == ?principal, action, resource in ?resource) when { resource.public };\n'
@@ -92,13 +92,13 @@ RUNS = (
     ("--schema-format json --policy-format cedar -s j.json -p p -q", "", 0, []),
     ("--schema-format cedar -s j.json -p p -q", "", 2, ["j.json:1:1: fault: "]),
     ("--input cedar -s j.json -p p -q", "", 2, []),
-    # units of columns: behind an umlaut of two bytes, and a letter of four bytes and two units of UTF-16
-    ("s wide -q", "", 1, ["wide:1:1: policy `policy0`: refused", "wide:2:23: error: attribute `size`"]),
-    ("s wide -q --columns characters", "", 1, ["wide:1:1: policy", "wide:2:23: error: "]),
-    ("s wide -q --columns utf16", "", 1, ["wide:1:1: policy", "wide:2:24: error: "]),
-    ("s wide -q --columns=bytes", "", 1, ["wide:1:1: policy", "wide:2:27: error: "]),
-    ("s wide -q --json --columns bytes", "", 1, ['{"kind":"policy","file":"wide","line":1,"column":1,"end_line":2,"end_column":47,',
-     '{"kind":"error","file":"wide","line":2,"column":27,"end_line":2,"end_column":40,']),
+    # units of columns: behind umlauts of two bytes, and pictures of four bytes and two units of UTF-16
+    ("s wide -q", "", 1, ["wide:1:1: policy `policy0`: refused", "wide:2:24: error: attribute `size`"]),
+    ("s wide -q --columns characters", "", 1, ["wide:1:1: policy", "wide:2:24: error: "]),
+    ("s wide -q --columns utf16", "", 1, ["wide:1:1: policy", "wide:2:26: error: "]),
+    ("s wide -q --columns=bytes", "", 1, ["wide:1:1: policy", "wide:2:32: error: "]),
+    ("s wide -q --json --columns bytes", "", 1, ['{"kind":"policy","file":"wide","line":1,"column":1,"end_line":2,"end_column":52,',
+     '{"kind":"error","file":"wide","line":2,"column":32,"end_line":2,"end_column":45,']),
     ("s wide -q --format sarif --columns bytes", "", 2, []),
     # the statuses of `cedar validate`: 0 where it passes, 3 where validation fails, 1 where the command does, 2 where words are wrong
     ("--cedar-status -s s -p p -q", "", 0, []),

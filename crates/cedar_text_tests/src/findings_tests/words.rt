@@ -185,6 +185,6 @@ fn names_are_of_one_word(rt: HostRuntime) -> Result<(), Fail> {
             assert!(rt; is_found, "{name}");
         }
     }
-    assert_eq!(rt; names.len(), 29);
+    assert_eq!(rt; names.len(), 30);
     Ok(())
 }

@@ -1,0 +1,50 @@
+-- Policies of a document, and the verdicts on them.
+use Rattle.std.specs.Prelude.{◌≡◌, ℕ, ◌+◌, ◌-◌, min, List, All, true, false}
+use Rattle.cedar_types.specs.Extensions.Functions.{Refusals}
+use Rattle.cedar_types.specs.Templates.{template_of}
+use Rattle.cedar_verdicts.specs.Verdicts.{basis_of, IsPromised}
+use Rattle.cedar_verdicts.specs.declared.settings.Settings.{Settings}
+use Rattle.cedar_editor.specs.Checks.{has_shown_error, IsRightlySaid}
+use Rattle.cedar_editor.specs.declared.checks.CheckedPolicy.{CheckedPolicy}
+use Rattle.cedar_editor.specs.declared.documents.Judge.{Judge}
+use Rattle.cedar_editor.specs.declared.documents.Judge.TheVariants as Judge
+use Rattle.cedar_editor.specs.declared.documents.PlacedPolicy.{PlacedPolicy}
+
+-- the verdict on a policy is right by these settings, wherever the policy stands; a judge without a schema gives no verdict, so
+-- nothing is claimed of it
+abbrev pub is_said_by : {C : Type 0} → (C → Refusals) → Judge C → CheckedPolicy → Type 0
+is_said_by meaning (Judge.Reading functions) p = Unit {0}
+is_said_by meaning (Judge.Settings s) p = IsRightlySaid (basis_of meaning s) s.level p
+
+-- the verdict on a placed policy is right by this judge
+abbrev pub IsSaidBy : {C : Type 0} → (C → Refusals) → Judge C → PlacedPolicy → Type 0
+IsSaidBy meaning judge p = is_said_by meaning judge p.policy.value
+
+-- the verdicts on all of these policies are right by this judge
+abbrev pub AreRightlySaidBy : {C : Type 0} → (C → Refusals) → Judge C → List PlacedPolicy → Type 0
+AreRightlySaidBy meaning judge ps = All (IsSaidBy meaning judge) ps
+
+-- the byte at which a policy begins, and the policy
+abbrev pub placed_policy : PlacedPolicy → ℕ × CheckedPolicy
+placed_policy p = (p.start, p.policy.value)
+
+-- the byte behind a change, once the change is made: the changed part ended at `old`, and ends at `new` now; no place lies
+-- beyond 64 bits
+abbrev pub moved_byte : ℕ → ℕ → ℕ → ℕ
+moved_byte old new b = min ((b - old) + new) 18446744073709551615
+
+-- the byte at which a policy behind a change begins once the change is made, and the policy
+abbrev pub moved_policy : ℕ → ℕ → PlacedPolicy → ℕ × CheckedPolicy
+moved_policy old new p = (moved_byte old new p.start, p.policy.value)
+
+-- no error of a policy is shown
+abbrev pub ShowsNoError : PlacedPolicy → Type 0
+ShowsNoError p = has_shown_error p.policy.value ≡ false
+
+-- validation by these settings promises of a policy all that it promises of an accepted policy
+abbrev pub IsPromisedBy : {C : Type 0} → (C → Refusals) → Settings C → PlacedPolicy → Type 0
+IsPromisedBy meaning s p = IsPromised (basis_of meaning s) s.level (template_of p.policy.value.template) true
+
+-- policies that these settings judge rightly, and of which no error is shown, have the promise of accepted policies
+abbrev pub KeepThePromise : {C : Type 0} → (C → Refusals) → Settings C → List PlacedPolicy → Type 0
+KeepThePromise meaning s ps = AreRightlySaidBy meaning (Judge.Settings s) ps → All ShowsNoError ps → All (IsPromisedBy meaning s) ps

@@ -1,0 +1,4 @@
+pub mod Checks
+pub mod Documents
+pub mod Lines
+pub mod Units

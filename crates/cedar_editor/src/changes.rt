@@ -1,0 +1,188 @@
+// Changes of a text of policies: the policies that stay, and those that are read again.
+ghost use Rattle.std.specs.Prelude.{◌≡◌, ◌++◌, drop, map, take, IfOk, IfSome, OnOk};
+ghost use Rattle.cedar_editor.specs.Documents.{is_said_by, moved_byte, moved_policy, placed_policy, AreRightlySaidBy};
+
+use crate::checks::{CheckedPolicy, check_policy, read_alone};
+use crate::documents::{Judge, PlacedPolicy};
+use crate::windows::{Window, window_of};
+use cedar_types::base::{ArgumentCheck, Loc};
+use std::alloc::{AllocError, Global};
+use std::rc::Rc;
+
+/// The policies that a change touches: those from the number `first` up to `last`, which is not one of them, and the places in
+/// the new text of the policies that stand there now.
+#[derive(Drop)]
+pub struct Touched {
+    pub first: usize,
+    pub last: usize,
+    pub places: Vec<Loc>,
+}
+
+/// The policies of a text that a change touches, and the places of those that stand there now. A policy with a fault right
+/// before the change is read again too, because it ends at the byte at which the next one seems to begin. Reading goes on until
+/// a policy ends at a byte at which an old one ended.
+pub fn read_touched(
+    alloc: Global,
+    old: &[PlacedPolicy],
+    old_size: usize,
+    text: &str,
+    place: Loc,
+    inserted: usize,
+) -> Result<Touched, AllocError> {
+    let first = first_touched(old, place.start);
+    let mut last = last_touched(old, place.end).max(first.saturating_add(1));
+    let start = end_before(old, first);
+    let mut step = 1usize;
+    for _ in 0..old.len().saturating_add(1) {
+        let old_end = if last < old.len() {
+            end_before(old, last)
+        } else {
+            old_size
+        };
+        let end = moved(old_end, place.end, place.start.saturating_add(inserted));
+        let Window { places, is_settled } = window_of(alloc, text, Loc { start, end })?;
+        if is_settled {
+            let last = last.min(old.len());
+            return Ok(Touched {
+                first,
+                last,
+                places,
+            });
+        }
+        last = last.saturating_add(step);
+        step = step.saturating_mul(2);
+    }
+    let whole = Loc {
+        start,
+        end: text.len(),
+    };
+    let Window { places, .. } = window_of(alloc, text, whole)?;
+    Ok(Touched {
+        first,
+        last: old.len(),
+        places,
+    })
+}
+
+/// The number of the first policy that ends behind a byte, or of the first one with a fault right before it.
+fn first_touched(old: &[PlacedPolicy], byte: usize) -> usize {
+    let mut first = old.iter().take_while(|placed| placed.end() <= byte).count();
+    for placed in old.iter().take(first).rev() {
+        if placed.policy.fault.is_none() {
+            break;
+        }
+        first = first.saturating_sub(1);
+    }
+    first
+}
+
+/// The number of policies that begin at a byte or before it.
+fn last_touched(old: &[PlacedPolicy], byte: usize) -> usize {
+    old.iter().take_while(|placed| placed.start <= byte).count()
+}
+
+/// The byte at which the policy before this number ends; the beginning of the text if there is none.
+fn end_before(old: &[PlacedPolicy], number: usize) -> usize {
+    match number.checked_sub(1).and_then(|before| old.get(before)) {
+        Some(placed) => placed.end(),
+        None => 0,
+    }
+}
+
+/// The place of a byte behind a change, once the change is made.
+fn moved(byte: usize, old_end: usize, new_end: usize) -> usize
+    ensures { result ≡ moved_byte old_end new_end byte }
+{
+    byte.saturating_sub(old_end).saturating_add(new_end)
+}
+
+/// Adds the policies before this number.
+pub fn keep_before(
+    old: &[PlacedPolicy],
+    first: usize,
+    policies: &mut Vec<PlacedPolicy>,
+) -> Result<(), AllocError>
+    ensures { OnOk result (map placed_policy policies.new.items
+        ≡ map placed_policy policies.old.items ++ map placed_policy (take first old.now)) }
+{
+    let kept = &old[..first.min(old.len())];
+    for placed in kept {
+        policies.push(PlacedPolicy {
+            start: placed.start,
+            policy: placed.policy.clone()?,
+        })?;
+    }
+    Ok(())
+}
+
+/// Adds the policies from this number on, at their places after the change.
+pub fn keep_after(
+    old: &[PlacedPolicy],
+    last: usize,
+    old_end: usize,
+    new_end: usize,
+    policies: &mut Vec<PlacedPolicy>,
+) -> Result<(), AllocError>
+    ensures { OnOk result (map placed_policy policies.new.items
+        ≡ map placed_policy policies.old.items ++ map (moved_policy old_end new_end) (drop last old.now)) }
+{
+    let kept = &old[last.min(old.len())..];
+    for placed in kept {
+        policies.push(PlacedPolicy {
+            start: moved(placed.start, old_end, new_end),
+            policy: placed.policy.clone()?,
+        })?;
+    }
+    Ok(())
+}
+
+/// Adds the policies at these places of a text. A policy that has the text of a known one is not read or judged again.
+pub fn add_policies<C: ArgumentCheck>(
+    alloc: Global,
+    judge: &Judge<'_, C>,
+    text: &str,
+    places: &[Loc],
+    known: &[PlacedPolicy],
+    policies: &mut Vec<PlacedPolicy>,
+) -> Result<(), AllocError>
+    ensures { OnOk result (AreRightlySaidBy C.refusal judge.now known.now
+        → AreRightlySaidBy C.refusal judge.now policies.old.items
+        → AreRightlySaidBy C.refusal judge.now policies.new.items) }
+{
+    for place in places {
+        let own = text.get(place.start..place.end).unwrap_or("");
+        let Some(policy) = policy_of(alloc, judge, own, known)? else {
+            continue;
+        };
+        policies.push(PlacedPolicy {
+            start: place.start,
+            policy,
+        })?;
+    }
+    Ok(())
+}
+
+/// The policy of this text: a known policy with this text if there is one, else one that is read and judged.
+fn policy_of<C: ArgumentCheck>(
+    alloc: Global,
+    judge: &Judge<'_, C>,
+    own: &str,
+    known: &[PlacedPolicy],
+) -> Result<Option<Rc<CheckedPolicy>>, AllocError>
+    ensures { IfOk result (λ found. AreRightlySaidBy C.refusal judge.now known.now
+        → IfSome found (λ policy. is_said_by C.refusal judge.now policy.value)) }
+{
+    for placed in known {
+        if placed.policy.text.as_str() == own {
+            return Ok(Some(placed.policy.clone()?));
+        }
+    }
+    let read = match judge {
+        Judge::Reading(functions) => read_alone(alloc, functions, own)?,
+        Judge::Settings(settings) => check_policy(alloc, settings, own)?,
+    };
+    match read {
+        Some(policy) => Ok(Some(Rc::new(alloc, policy)?)),
+        None => Ok(None),
+    }
+}

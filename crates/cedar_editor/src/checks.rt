@@ -1,0 +1,219 @@
+//! Policies of a text, each with the verdict on it.
+ghost use Rattle.std.specs.Prelude.{◌≡◌, false, IfOk, IfSome};
+ghost use Rattle.cedar_verdicts.specs.Verdicts.{basis_of};
+ghost use Rattle.cedar_editor.specs.Checks.{has_shown_error, IsRightlySaid, IsSafeAsShown};
+
+use crate::readings::{FaultyReading, Reading, read_policy};
+use crate::tokens::token_from;
+use cedar_findings::faults::TextFault;
+use cedar_findings::findings::{Finding, Requirement, Verdict};
+use cedar_types::base::{ArgumentCheck, ExtensionSchemas, Loc, Template};
+use cedar_verdicts::settings::Settings;
+use cedar_verdicts::verdicts::judge;
+use std::alloc::{AllocError, Global};
+
+/// A policy with the verdict on it. All places are bytes of the policy's own text.
+#[derive(Drop)]
+pub struct CheckedPolicy {
+    pub text: String,
+    /// The policy as it was read; for a policy with a fault, its good parts.
+    pub template: Template,
+    /// The text of the policy names its id, so the id does not depend on the number of policies before it.
+    pub names_itself: bool,
+    /// The fault because of which the policy cannot be read, if there is one.
+    pub fault: Option<TextFault>,
+    /// The verdict by the schema, if there is a schema. For a policy with a fault it has the errors of the good parts, which
+    /// stay whatever else will be written.
+    pub verdict: Option<Verdict>,
+}
+
+impl CheckedPolicy {
+    /// The id of the policy, if `number` policies come before it. If memory is refused, the answer is an `AllocError`.
+    pub fn id(&self, alloc: Global, number: usize) -> Result<String, AllocError> {
+        if self.names_itself {
+            return String::from_str(alloc, self.template.id.text.as_str());
+        }
+        format!(in alloc; "policy{number}")
+    }
+
+    /// A number that policies with one id share, and most others do not, by the number of policies that come before it. If memory
+    /// is refused, the answer is an `AllocError`.
+    pub fn id_sum(&self, alloc: Global, number: usize) -> Result<u64, AllocError> {
+        let id = self.id(alloc, number)?;
+        Ok(sum_of(id.as_str()))
+    }
+
+    /// The number of findings that are shown of the policy.
+    pub fn finding_count(&self) -> usize {
+        let said = match &self.verdict {
+            Some(verdict) => verdict.errors.len().saturating_add(verdict.warnings.len()),
+            None => 0,
+        };
+        said.saturating_add(usize::from(self.fault.is_some()))
+    }
+
+    /// Whether an error of the policy is shown. A policy that is checked by a schema and is shown without an error is accepted.
+    pub fn has_error(&self) -> bool
+        ensures { result ≡ has_shown_error self.now }
+    {
+        if self.fault.is_some() {
+            return true;
+        }
+        match &self.verdict {
+            Some(verdict) => !verdict.errors.is_empty(),
+            None => false,
+        }
+    }
+}
+
+/// The first policy of a text, if there is one, read without a schema and so without a verdict.
+pub fn read_alone<C>(
+    alloc: Global,
+    functions: &ExtensionSchemas<C>,
+    text: &str,
+) -> Result<Option<CheckedPolicy>, AllocError>
+    ensures { IfOk result (λ read. IfSome read (λ policy. policy.verdict ≡ None)) }
+{
+    let Some(reading) = read_policy(alloc, functions, text)? else {
+        return Ok(None);
+    };
+    let own = String::from_str(alloc, text)?;
+    let names_itself = names_itself(text);
+    let (template, fault) = match reading {
+        Reading::Whole(template) => (template, None),
+        Reading::Faulty(
+            FaultyReading {
+                template,
+                fault,
+                ..
+            },
+        ) => (template, Some(fault)),
+    };
+    Ok(Some(CheckedPolicy {
+        text: own,
+        template,
+        names_itself,
+        fault,
+        verdict: None,
+    }))
+}
+
+/// The first policy of a text, if there is one, with the verdict on it. A policy without a fault has the verdict of `judge`
+/// (clause `right`), so a policy that is shown without an error keeps the promise of validation (clause `safe`). If memory is
+/// refused, the answer is an `AllocError`.
+pub fn check_policy<C: ArgumentCheck>(
+    alloc: Global,
+    settings: &Settings<'_, C>,
+    text: &str,
+) -> Result<Option<CheckedPolicy>, AllocError>
+    ensures right { IfOk result (λ read. IfSome read
+        (IsRightlySaid (basis_of C.refusal settings.now) settings.now.level)) }
+    ensures safe { IfOk result (λ read. IfSome read
+        (IsSafeAsShown (basis_of C.refusal settings.now) settings.now.level)) }
+{
+    let functions = settings.validator.extensions();
+    let Some(reading) = read_policy(alloc, functions, text)? else {
+        return Ok(None);
+    };
+    let own = String::from_str(alloc, text)?;
+    let names_itself = names_itself(text);
+    match reading {
+        Reading::Whole(template) => {
+            let verdict = judge(alloc, settings, text, &template)?;
+            Ok(Some(CheckedPolicy {
+                text: own,
+                template,
+                names_itself,
+                fault: None,
+                verdict: Some(verdict),
+            }))
+        }
+        Reading::Faulty(faulty) => {
+            let verdict = judge_good_parts(alloc, settings, text, &faulty)?;
+            let FaultyReading {
+                template,
+                fault,
+                ..
+            } = faulty;
+            Ok(Some(CheckedPolicy {
+                text: own,
+                template,
+                names_itself,
+                fault: Some(fault),
+                verdict: Some(verdict),
+            }))
+        }
+    }
+}
+
+/// The verdict on the good parts of a policy with a fault: the errors that stay whatever else will be written. It does not
+/// accept the policy.
+fn judge_good_parts<C: ArgumentCheck>(
+    alloc: Global,
+    settings: &Settings<'_, C>,
+    text: &str,
+    faulty: &FaultyReading,
+) -> Result<Verdict, AllocError> {
+    let said = judge(alloc, settings, text, &faulty.template)?;
+    let whole = faulty.template.loc;
+    let mut errors = Vec::new(alloc);
+    for error in said.errors {
+        let place = place_of(&error);
+        // an error of the whole policy may go away, and so may one of the unfinished part, for example that it is no Boolean
+        if Some(place) != whole && Some(place) != faulty.unfinished {
+            errors.push(error)?;
+        }
+    }
+    Ok(Verdict {
+        is_accepted: false,
+        requirement: Requirement::Unsaid,
+        errors,
+        warnings: Vec::new(alloc),
+        others: 0,
+        warning_count: 0,
+    })
+}
+
+/// The place of a finding in the policy's text.
+pub fn place_of(finding: &Finding) -> Loc {
+    Loc {
+        start: finding.start,
+        end: finding.end,
+    }
+}
+
+/// Whether one of the annotations with which a policy begins is `@id`.
+fn names_itself(text: &str) -> bool {
+    let mut at = 0usize;
+    for _ in 0..text.len() {
+        let mark = token_from(text, at);
+        if !mark.is("@") {
+            return false;
+        }
+        let key = token_from(text, mark.place.end);
+        if key.is("id") {
+            return true;
+        }
+        at = behind_value(text, key.place.end);
+    }
+    false
+}
+
+/// The byte at which the value of an annotation ends, brackets included; `from` if no value stands there.
+fn behind_value(text: &str, from: usize) -> usize {
+    let open = token_from(text, from);
+    if !open.is("(") {
+        return from;
+    }
+    let value = token_from(text, open.place.end);
+    token_from(text, value.place.end).place.end
+}
+
+/// The sum of a text by the method of Fowler, Noll and Vo (FNV-1a).
+fn sum_of(text: &str) -> u64 {
+    let mut sum = 0xcbf2_9ce4_8422_2325u64;
+    for byte in text.as_bytes() {
+        sum = (sum ^ u64::from(*byte)).wrapping_mul(0x100_0000_01b3);
+    }
+    sum
+}

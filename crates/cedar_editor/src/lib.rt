@@ -1,0 +1,26 @@
+//! Diagnostics, hovers, completions, definitions, symbols and fixes for policies and schemas while they are written. No file is
+//! read here, and nothing is written.
+#![tactic(auto)]
+
+mod attributes;
+mod changes;
+pub mod checks;
+pub mod completions;
+pub mod definitions;
+pub mod diagnostics;
+pub mod documents;
+pub mod edits;
+pub mod fixes;
+pub mod hovers;
+pub mod lines;
+mod members;
+mod mentions;
+pub mod offsets;
+pub mod outlines;
+mod readings;
+pub mod schemas;
+mod spots;
+pub mod symbols;
+mod tokens;
+mod typed_parts;
+mod windows;

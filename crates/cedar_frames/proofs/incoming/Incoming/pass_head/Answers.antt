@@ -1,0 +1,5 @@
+use Rattle.cedar_frames.proofs.incoming.Incoming.pass_head.Goals as goal
+
+pub returns-clause-exact : goal.returns-clause-exact
+returns-clause-exact c =
+    (c.split_at.result.0.now, cc (c.as_slice.ensures.value, c.split_at.ensures.by_index.0, c.in_ok-self.ensures))

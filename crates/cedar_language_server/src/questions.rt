@@ -1,0 +1,234 @@
+// Questions of an editor about a document.
+use crate::messages::Call;
+use crate::replies::Refusal;
+use crate::workspaces::{Document, SchemaFile, Workspace};
+use crate::written::{Origin, Written};
+use cedar_editor::checks::place_of;
+use cedar_editor::completions::completion_at;
+use cedar_editor::definitions::definitions_at;
+use cedar_editor::diagnostics::of_finding;
+use cedar_editor::documents::PlacedPolicy;
+use cedar_editor::fixes::{Fix, fix_of};
+use cedar_editor::hovers::hover_at;
+use cedar_editor::symbols::{policy_symbols, schema_symbols};
+use cedar_findings::findings::{Finding, Severity};
+use cedar_types::base::Loc;
+use std::alloc::AllocError;
+
+/// The outcome of a question: a value of JSON, or a refusal.
+type Outcome = Result<Result<String, Refusal>, AllocError>;
+
+/// A question that an editor may ask.
+#[derive(Clone, Copy, PartialEq, Eq)]
+pub enum Question {
+    Hover,
+    Completion,
+    Definition,
+    Symbols,
+    Fixes,
+}
+
+impl Question {
+    /// The question of this method, if it is one.
+    pub fn of_method(method: &str) -> Option<Question> {
+        match method {
+            "textDocument/hover" => Some(Question::Hover),
+            "textDocument/completion" => Some(Question::Completion),
+            "textDocument/definition" => Some(Question::Definition),
+            "textDocument/documentSymbol" => Some(Question::Symbols),
+            "textDocument/codeAction" => Some(Question::Fixes),
+            _ => None,
+        }
+    }
+}
+
+/// A policy of a document, with the byte that is asked about.
+#[derive(Clone, Copy)]
+struct Asked<'a> {
+    uri: &'a str,
+    document: &'a Document,
+    placed: &'a PlacedPolicy,
+    /// The byte that is asked about, in the policy's own text.
+    byte: usize,
+}
+
+impl<'a> Asked<'a> {
+    fn origin(self) -> Origin<'a> {
+        Origin {
+            uri: self.uri,
+            text: self.document.policies.text(),
+            lines: self.document.policies.lines(),
+        }
+    }
+}
+
+impl Workspace<'_> {
+    /// The outcome of a question about a document of policies or about a schema.
+    pub fn answer(&self, question: Question, call: Call<'_>) -> Outcome {
+        let Some(uri) = call.uri() else {
+            return Ok(Err(Refusal::BadParameters));
+        };
+        let Some(document) = self.document(uri) else {
+            return self.answer_of_schema(question, uri);
+        };
+        if question == Question::Symbols {
+            return self.symbols(uri, document);
+        }
+        let at = match question {
+            Question::Fixes => call.range().map(|range| range.start),
+            _ => call.position(),
+        };
+        let Some(at) = at else {
+            return Ok(Err(Refusal::BadParameters));
+        };
+        let byte = document.policies.byte(at);
+        let Some(placed) = document.policies.policy_at(byte) else {
+            return self.nothing(question);
+        };
+        let asked = Asked {
+            uri,
+            document,
+            placed,
+            byte: byte.saturating_sub(placed.start),
+        };
+        match question {
+            Question::Hover => self.hover(asked),
+            Question::Completion => self.completion(asked),
+            Question::Definition => self.definition(asked),
+            Question::Symbols | Question::Fixes => {
+                let end = call.range().map(|range| document.policies.byte(range.end));
+                self.fixes(asked, byte, end.unwrap_or(byte))
+            }
+        }
+    }
+
+    /// The outcome of a question about a schema. Symbols are the only question that has an answer there.
+    fn answer_of_schema(&self, question: Question, uri: &str) -> Outcome {
+        let Some(schema) = self.schema_named(uri)? else {
+            return Ok(Err(Refusal::BadParameters));
+        };
+        if question != Question::Symbols {
+            return self.nothing(question);
+        }
+        let symbols = schema_symbols(self.alloc, schema.document.own().declared.as_slice())?;
+        let mut written = Written::new(self.alloc);
+        written.symbols(&origin_of(schema), symbols.as_slice())?;
+        Ok(Ok(written.out))
+    }
+
+    /// The answer if nothing is known: `null` to a hover, and an empty list to the other questions.
+    fn nothing(&self, question: Question) -> Outcome {
+        let nothing = match question {
+            Question::Hover => "null",
+            Question::Completion | Question::Definition => "[]",
+            Question::Symbols | Question::Fixes => "[]",
+        };
+        Ok(Ok(String::from_str(self.alloc, nothing)?))
+    }
+
+    fn symbols(&self, uri: &str, document: &Document) -> Outcome {
+        let symbols = policy_symbols(self.alloc, &document.policies)?;
+        let origin = Origin {
+            uri,
+            text: document.policies.text(),
+            lines: document.policies.lines(),
+        };
+        let mut written = Written::new(self.alloc);
+        written.symbols(&origin, symbols.as_slice())?;
+        Ok(Ok(written.out))
+    }
+
+    fn hover(&self, asked: Asked<'_>) -> Outcome {
+        let Some(schema) = self.schema_of(asked.document) else {
+            return self.nothing(Question::Hover);
+        };
+        let judge = self.judge_of(asked.document);
+        let (own, policy) = (schema.document.own(), asked.placed.policy());
+        let found = hover_at(self.alloc, judge.settings(), own, policy, asked.byte)?;
+        let Some(hover) = found else {
+            return self.nothing(Question::Hover);
+        };
+        let place = asked.placed.place(hover.place);
+        let mut written = Written::new(self.alloc);
+        written.hover(&asked.origin(), place, hover.text.as_str())?;
+        Ok(Ok(written.out))
+    }
+
+    fn completion(&self, asked: Asked<'_>) -> Outcome {
+        let judge = self.judge_of(asked.document);
+        let Some(settings) = judge.settings() else {
+            return self.nothing(Question::Completion);
+        };
+        let found = completion_at(self.alloc, settings, asked.placed.policy(), asked.byte)?;
+        let place = asked.placed.place(found.place);
+        let mut written = Written::new(self.alloc);
+        written.completion(&asked.origin(), place, &found)?;
+        Ok(Ok(written.out))
+    }
+
+    fn definition(&self, asked: Asked<'_>) -> Outcome {
+        let Some(schema) = self.schema_of(asked.document) else {
+            return self.nothing(Question::Definition);
+        };
+        let judge = self.judge_of(asked.document);
+        let (own, policy) = (schema.document.own(), asked.placed.policy());
+        let places = definitions_at(self.alloc, judge.settings(), own, policy, asked.byte)?;
+        let origin = origin_of(schema);
+        let mut written = Written::new(self.alloc);
+        written.json.begin_list(&mut written.out)?;
+        for place in places {
+            written.location(&origin, place)?;
+        }
+        written.json.end_list(&mut written.out)?;
+        Ok(Ok(written.out))
+    }
+
+    /// The fixes of the errors of one policy that touch a range, from one byte of its document to another.
+    fn fixes(&self, asked: Asked<'_>, start: usize, end: usize) -> Outcome {
+        let judge = self.judge_of(asked.document);
+        let Some(settings) = judge.settings() else {
+            return self.nothing(Question::Fixes);
+        };
+        let policy = asked.placed.policy();
+        let mut written = Written::new(self.alloc);
+        written.json.begin_list(&mut written.out)?;
+        if let Some(verdict) = &policy.verdict {
+            for finding in &verdict.errors {
+                let place = asked.placed.place(place_of(finding));
+                if place.end < start || end < place.start {
+                    continue;
+                }
+                if let Some(fix) = fix_of(self.alloc, settings, policy, finding)? {
+                    self.add_fix(&mut written, asked, finding, &fix)?;
+                }
+            }
+        }
+        written.json.end_list(&mut written.out)?;
+        Ok(Ok(written.out))
+    }
+
+    /// Adds the fix of a finding.
+    fn add_fix(
+        &self,
+        written: &mut Written,
+        asked: Asked<'_>,
+        finding: &Finding,
+        fix: &Fix,
+    ) -> Result<(), AllocError> {
+        let origin = asked.origin();
+        let told = of_finding(self.alloc, asked.placed, Severity::Error, finding)?;
+        written.begin_fix(fix.title.as_str())?;
+        written.diagnostic(&origin, &told)?;
+        let place: Loc = asked.placed.place(fix.place);
+        written.end_fix(&origin, place, fix.text.as_str())
+    }
+}
+
+fn origin_of<'a>(schema: &'a SchemaFile<'_>) -> Origin<'a> {
+    let own = schema.document.own();
+    Origin {
+        uri: schema.uri.as_str(),
+        text: own.text.as_str(),
+        lines: &own.lines,
+    }
+}

@@ -1,0 +1,121 @@
+-- A session of Neovim with the language server, as scripts/editor_cases.py runs it: SERVER is the program, FOLDER a copy of photos/.
+local server, dir = os.getenv("SERVER"), os.getenv("FOLDER")
+local function say(...) io.stdout:write(string.format(...), "\n") end
+local file = dir .. "/edit.cedar"
+vim.cmd("edit " .. file)
+local buf = vim.api.nvim_get_current_buf()
+local id = vim.lsp.start_client({ name = "cedar", cmd = { server }, root_dir = dir })
+vim.lsp.buf_attach_client(buf, id)
+local client = vim.lsp.get_client_by_id(id)
+assert(vim.wait(5000, function() return client.initialized end, 10), "no answer to initialize")
+say("server %s", vim.inspect(client.server_capabilities.hoverProvider))
+local seen = 0
+local old = vim.lsp.handlers["textDocument/publishDiagnostics"]
+local function diagnostics(title)
+  say("-- %s", title)
+  for _, d in ipairs(vim.diagnostic.get(buf)) do
+    local line = vim.api.nvim_buf_get_lines(buf, d.lnum, d.lnum + 1, false)[1] or ""
+    local part = d.end_lnum == d.lnum and line:sub(d.col + 1, d.end_col) or "..."
+    say("%d:%d-%d:%d %s [%s] `%s` %s", d.lnum + 1, d.col + 1, d.end_lnum + 1, d.end_col + 1,
+      vim.diagnostic.severity[d.severity], tostring(d.user_data and d.user_data.lsp and d.user_data.lsp.code or d.code), part, d.message:gsub("\n", " / "))
+  end
+end
+local function settle(n)
+  vim.wait(3000, function() return #vim.diagnostic.get(buf) == n end, 10)
+end
+vim.wait(3000, function() return #vim.diagnostic.get(buf) > 0 end, 10)
+diagnostics("opened")
+local function params(line, text, offset)
+  local l = vim.api.nvim_buf_get_lines(buf, line - 1, line, false)[1]
+  local s = l:find(text, 1, true)
+  vim.api.nvim_win_set_cursor(0, { line, s - 1 + (offset or 0) })
+  return vim.lsp.util.make_position_params(0, client.offset_encoding)
+end
+local function ask(method, p)
+  local r = client.request_sync(method, p, 5000, buf)
+  if not r then return "no answer" end
+  if r.err then return vim.inspect(r.err) end
+  return r.result
+end
+local function hover(line, text, offset)
+  local r = ask("textDocument/hover", params(line, text, offset))
+  say("-- hover %d `%s`", line, text)
+  say("%s", type(r) == "table" and r.contents and r.contents.value or vim.inspect(r))
+end
+local function complete(line, text, offset)
+  local r = ask("textDocument/completion", params(line, text, offset))
+  say("-- completion %d behind `%s`", line, text)
+  for _, i in ipairs(r.items or {}) do say("%s: %s", i.label, i.detail) end
+end
+local function define(line, text, offset)
+  local r = ask("textDocument/definition", params(line, text, offset))
+  say("-- definition %d `%s`", line, text)
+  for _, l in ipairs(type(r) == "table" and r or {}) do say("%s:%d:%d", l.uri:match("[^/]*$"), l.range.start.line + 1, l.range.start.character + 1) end
+end
+hover(4, "resource", 2)
+hover(12, "team", 1)
+hover(12, "context.device", 9)
+hover(11, 'Action::"view"', 3)
+define(12, "lead", 1)
+define(12, "context.device", 9)
+define(11, 'Action::"view"', 3)
+local function set(line, text) vim.api.nvim_buf_set_lines(buf, line - 1, line, false, { text }) end
+-- code actions
+local function fix(line, text, offset)
+  local p = params(line, text, offset)
+  p.range = { start = p.position, ["end"] = p.position }
+  p.context = { diagnostics = {} }
+  local r = ask("textDocument/codeAction", p)
+  say("-- fixes %d `%s`", line, text)
+  for _, a in ipairs(type(r) == "table" and r or {}) do
+    say("%s", a.title)
+    vim.lsp.util.apply_workspace_edit(a.edit, client.offset_encoding)
+  end
+  say("   now: %s", vim.api.nvim_buf_get_lines(buf, line - 1, line, false)[1])
+end
+fix(4, "isPubic", 2)
+fix(8, "principal.vip", 11)
+fix(15, "Usr", 1)
+fix(15, "viw", 1)
+vim.wait(1000, function() return #vim.diagnostic.get(buf) == 0 end, 10)
+diagnostics("mended")
+-- what is being written
+set(8, "when { principal. };")
+vim.wait(1000, function() return #vim.diagnostic.get(buf) > 0 end, 10)
+diagnostics("a point")
+complete(8, "principal.", 10)
+set(8, "when { principal has vip && principal.v };")
+vim.wait(300)
+complete(8, "principal.v", 11)
+set(8, "when { resource.owner has  };")
+vim.wait(300)
+complete(8, "has ", 4)
+set(7, "permit(principal is , action == , resource)")
+vim.wait(300)
+complete(7, "is ", 3)
+complete(7, "action == ", 10)
+set(7, "permit(principal, action, resource)")
+set(8, "when { true };")
+vim.wait(1000, function() return #vim.diagnostic.get(buf) == 0 end, 10)
+diagnostics("mended again")
+-- symbols
+local r = ask("textDocument/documentSymbol", { textDocument = vim.lsp.util.make_text_document_params(buf) })
+say("-- symbols")
+for _, s in ipairs(r) do say("%s %d", s.name, s.range.start.line + 1) end
+-- the schema in another buffer
+vim.cmd("edit " .. dir .. "/photos.cedarschema")
+local sbuf = vim.api.nvim_get_current_buf()
+vim.lsp.buf_attach_client(sbuf, id)
+vim.wait(300)
+local lines = vim.api.nvim_buf_get_lines(sbuf, 0, -1, false)
+for n, l in ipairs(lines) do if l:find("isPublic") then vim.api.nvim_buf_set_lines(sbuf, n - 1, n, false, { (l:gsub("isPublic", "isOpen")) }) end end
+vim.wait(1000, function() return #vim.diagnostic.get(buf) > 0 end, 10)
+diagnostics("after the schema was edited, unsaved")
+vim.api.nvim_buf_set_lines(sbuf, 0, 1, false, { "entity User = { name: Strng };" })
+vim.wait(500)
+say("-- the schema with a fault")
+for _, d in ipairs(vim.diagnostic.get(sbuf)) do say("%d:%d %s", d.lnum + 1, d.col + 1, d.message) end
+vim.lsp.stop_client(id)
+vim.wait(2000, function() return client.is_stopped() end, 10)
+say("stopped: %s", tostring(client.is_stopped()))
+vim.cmd("qa!")

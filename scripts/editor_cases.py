@@ -1,0 +1,274 @@
+#!/usr/bin/env python3
+"""Tries the language server as editors use it: scripts/editor_cases.py [--record] [PROGRAM].
+
+PROGRAM is cedar_language_server, by default as it is built without a proof. A client sends messages in each phase, frames that
+no editor sends, texts with characters of one to four bytes, edits of ranges, and 10,000 changes, and refuses each growth of
+memory of a session in turn. Neovim, if the machine has it, opens examples/editors/photos/edit.cedar, asks, and takes fixes by
+examples/editors/session.lua; what it sees must be the transcript in docs/EDITORS.md, where --record writes it. Vim jumps by
+`cedar-validate --columns bytes`. An editor that is missing is skipped, which is said. The last line counts what went well and
+what did not.
+"""
+import json
+import os
+import re
+import shutil
+import subprocess
+import sys
+import tempfile
+from pathlib import Path
+
+import unproved
+from gate.editor_client import Client, NoAnswer, document, note, position, request
+
+TOP = Path(__file__).resolve().parent.parent
+EXAMPLES = TOP / "examples" / "editors"
+PAGE = TOP / "docs" / "EDITORS.md"
+TRANSCRIPT = re.compile(r"(<!-- transcript of scripts/editor_cases.py -->\n\n````text\n).*?(````\n\n<!-- end of the transcript -->)", re.S)
+SECONDS = 120
+# Codes of JSON-RPC and of the protocol.
+NO_JSON, NO_REQUEST, NO_METHOD, BAD_PARAMETERS, NO_MEMORY, NOT_INITIALIZED = -32700, -32600, -32601, -32602, -32603, -32002
+SCHEMA = "entity User = { name: String };\naction view appliesTo { principal: User, resource: User };\n"
+ODD = b'{"jsonrpc":"2.0","id":50,"method":"x"}'
+ODD_FRAME = b"Content-Length: %d\r\n\r\n" % len(ODD) + ODD
+# Texts that are no message: no JSON, and JSON that is no request.
+NO_MESSAGES = (b"", b"{", b"nul", b"\xff\xfe", b"[" * 100000, b'"\\ud800"', b"\xef\xbb\xbf{}", b"{} {}", b"01", b"1e", b"-", b"\x00")
+# Heads of which each says no length.
+NO_LENGTHS = (b"\r\n\r\n", b"Content-Type: x\r\n\r\n", b"Content-Length: -5\r\n\r\n", b"Content-Length: 99999999999999999999999\r\n\r\n",
+              b"Content-Length: 12x\r\n\r\n", b"Content-Length: \r\n\r\n")
+# Frames of one message, written in other ways.
+SAME = {
+    "lower case, no blank, another line": b"content-LENGTH:%d\r\nX-Y: z\r\n\r\n" % len(ODD) + ODD,
+    "two lengths, of which the last counts": b"Content-Length: 3\r\nContent-Length: %d\r\n\r\n" % len(ODD) + ODD,
+    "a line of 8,000 bytes": b"X: " + b"y" * 8000 + b"\r\nContent-Length: %d\r\n\r\n" % len(ODD) + ODD,
+}
+LETTERS = ("", "é", "𝒳", "👩‍👩‍👧", "\t", "日本", "\u2028", "a\u0301")
+
+
+class Missing(Exception):
+    """An editor that the machine has not."""
+
+
+class Counts:
+    def __init__(self):
+        self.passed = self.failed = 0
+
+    def want(self, name, is_well, got=None):
+        self.passed += bool(is_well)
+        self.failed += not is_well
+        if not is_well:
+            print(f"{name}: {str(got)[:600]}", flush=True)
+
+
+def code(answer):
+    return answer.get("error", {}).get("code")
+
+
+def phases(counts, program):
+    """Which requests are answered with what, before `initialize`, while serving, and behind `shutdown`."""
+    with Client(program) as client:
+        hover = position("file:///no", 0, 0)
+        client.tell("textDocument/didOpen", document("file:///x.cedar", "permit"))
+        for method in ("textDocument/hover", "x/y", "shutdown"):
+            counts.want(f"{method} before initialize", code(answer := client.ask(method, hover)) == NOT_INITIALIZED, answer)
+        answer = client.ask("initialize", {"processId": None, "x": 1.5, "y": -0.5e-3, "capabilities": {}})
+        counts.want("initialize with null and fractions", answer["result"]["capabilities"]["hoverProvider"] is True, answer)
+        counts.want("initialize twice", code(answer := client.ask("initialize", {})) == NO_REQUEST, answer)
+        counts.want("a method that is not there", code(answer := client.ask("textDocument/rename", {})) == NO_METHOD, answer)
+        for told in (note("$/setTrace", {"value": "off"}), note("no/such"), note("textDocument/didChange", {}), note("textDocument/didChange", [1])):
+            client.send(told)
+        counts.want("hover without a document", code(answer := client.ask("textDocument/hover", {})) == BAD_PARAMETERS, answer)
+        counts.want("hover of a document that is not open", code(answer := client.ask("textDocument/hover", hover)) == BAD_PARAMETERS, answer)
+        client.send(request('abc"\\\n', "textDocument/hover", {}))
+        counts.want("an id that is a text", (answer := client.read())["id"] == 'abc"\\\n' and code(answer) == BAD_PARAMETERS, answer)
+        for odd in (1.5, None, [1], {"a": 1}, True):
+            client.send(request(odd, "textDocument/hover", {}))
+            counts.want(f"an id that is {odd!r}", (answer := client.read())["id"] is None and code(answer) == NO_REQUEST, answer)
+        client.send({"jsonrpc": "2.0", "id": 7, "result": None})
+        client.send({"jsonrpc": "2.0", "id": 8, "error": {"code": 1, "message": "no"}})
+        counts.want("answers are passed over", code(answer := client.ask("x")) == NO_METHOD, answer)
+        client.send({"jsonrpc": "2.0", "id": 9, "method": 5})
+        counts.want("a method that is a number", code(answer := client.read()) == NO_REQUEST, answer)
+        client.send([request(10, "x")])
+        counts.want("a list of requests", code(answer := client.read()) == NO_REQUEST, answer)
+        for text in NO_MESSAGES:
+            client.send(text)
+            counts.want(f"a message {text[:12]!r}", (answer := client.read())["id"] is None and code(answer) in (NO_JSON, NO_REQUEST), answer)
+        counts.want("shutdown", (answer := client.ask("shutdown")).get("result", 1) is None, answer)
+        for method in ("shutdown", "textDocument/hover"):
+            counts.want(f"{method} behind shutdown", code(answer := client.ask(method, hover)) == NO_REQUEST, answer)
+        client.tell("exit")
+        counts.want("exit behind shutdown", (status := client.process.wait(SECONDS)) == 0, status)
+
+
+def ends(counts, program):
+    """The status of a server whose input ends, and of one that ends by `exit` alone."""
+    for name, sent in (("exit alone", b'Content-Length: 33\r\n\r\n{"jsonrpc":"2.0","method":"exit"}'), ("no input", b""), ("half a message", b"Content-Length: 100\r\n\r\n{"), ("half a head", b"Content-")):
+        done = subprocess.run([str(program)], input=sent, capture_output=True, timeout=SECONDS)
+        counts.want(f"the status behind {name}", done.returncode == 1, done)
+    with Client(program) as client:
+        client.start()
+        client.process.stdout.close()
+        client.send(request(1, "x"))
+        counts.want("nobody reads the answers", (status := client.process.wait(SECONDS)) != 0, status)
+
+
+def frames(counts, program):
+    """Frames that no editor sends, and those that come in pieces."""
+    with Client(program) as client:
+        client.start()
+        for head in NO_LENGTHS:
+            client.raw(head)
+            counts.want(f"a head {head!r}", code(answer := client.read()) == NO_REQUEST, answer)
+        for name, sent in SAME.items():
+            client.raw(sent)
+            counts.want(name, (answer := client.read())["id"] == 50, answer)
+        for byte in ODD_FRAME:
+            client.raw(bytes([byte]))
+        counts.want("byte by byte", (answer := client.read())["id"] == 50, answer)
+        client.raw(ODD_FRAME * 3)
+        counts.want("three at once", [client.read()["id"] for _ in range(3)] == [50] * 3)
+        client.send(b'{"jsonrpc":"2.0","id":51,"method":"' + b"x" * (60 << 20) + b'"}')
+        counts.want("a method of 60 MiB", code(answer := client.read()) == NO_METHOD, answer)
+        client.raw(b"Content-Length: %d\r\n\r\n" % (70 << 20))
+        for _ in range(70):
+            client.raw(b"z" * (1 << 20))
+        counts.want("a message of 70 MiB is passed over", code(answer := client.read()) == NO_REQUEST, answer)
+        counts.want("the message behind it is answered", code(answer := client.ask("x")) == NO_METHOD, answer)
+        client.raw(b"X: " + b"y" * 100000 + b"\r\n\r\n")
+        counts.want("a head of 100,000 bytes", code(answer := client.read()) == NO_REQUEST, answer)
+
+
+def part(text, range_):
+    """The part of a text that a range means, by units of UTF-16; None where it is of several lines."""
+    lines = re.split("\r\n|\n|\r", text)
+    start, end = range_["start"], range_["end"]
+    if start["line"] != end["line"]:
+        return None
+    return lines[start["line"]].encode("utf-16-le")[2 * start["character"]:2 * end["character"]].decode("utf-16-le")
+
+
+def positions(counts, program, room):
+    """A diagnostic and a hover stand at their letters, whatever stands before them, and after an edit of a range."""
+    (room / "a.cedarschema").write_text(SCHEMA, encoding="utf8")
+    with Client(program) as client:
+        client.start()
+        for number, (end, letters) in enumerate((end, letters) for end in ("\n", "\r\n", "\r") for letters in LETTERS):
+            uri = f"file://{room}/p%20{number}.cedar"
+            for before in (f"// {letters}{end}", f'@note("{letters}") ', ""):
+                text = f'{before}permit(principal, action, resource){end}when {{ "{letters}" == "{letters}" && principal.nam == "{letters}" }};'
+                found = client.open(uri, text)
+                parts = [part(text, it["range"]) for it in found]
+                counts.want(f"diagnostics in {text!r}", parts == ["principal.nam"], parts)
+                start = found[0]["range"]["start"]
+                hover = client.ask("textDocument/hover", position(uri, start["line"], start["character"] + 11))["result"]
+                counts.want(f"hover in {text!r}", hover and part(text, hover["range"]) == "principal.nam", hover)
+                # the letter that is missing, by a range that is empty
+                place = {"line": start["line"], "character": start["character"] + 13}
+                edit = {"textDocument": {"uri": uri, "version": 2}, "contentChanges": [{"range": {"start": place, "end": place}, "text": "e"}]}
+                client.tell("textDocument/didChange", edit)
+                counts.want(f"an edit of {text!r}", (found := client.published(uri)) == [], found)
+        client.open(uri, "permit(principal, action, resource) when { principal.name == \"𝒳\" };")
+        for line, character in ((10**12, 0), (0, 10**15), (0, 63), (-1, 0), (1.5, 0), (None, None)):
+            for method in ("hover", "completion", "definition"):
+                answer = client.ask(f"textDocument/{method}", position(uri, line, character))
+                counts.want(f"{method} at {line}:{character}", "result" in answer or code(answer) == BAD_PARAMETERS, answer)
+        client.open("untitled:Untitled-1", SCHEMA)
+        counts.want("the end", (status := client.end()) == 0, status)
+
+
+def written(count):
+    """A text of ten policies of which one is half written."""
+    whole = "permit(principal, action, resource) when { principal has vip && principal.vip && resource.age > 12 };\n"
+    cut = 44 + count % (len(whole) - 44)
+    return whole * 4 + whole[:cut] + "\n" + whole * 5
+
+
+def changes(counts, program, room):
+    """10,000 changes of a document, by 300 actions: one answer each, and the memory of the server stays flat."""
+    actions = "".join(f"action a{it} appliesTo {{ principal: User, resource: User }};\n" for it in range(300))
+    (room / "many.cedarschema").write_text("entity User { name: String, age: Long, vip?: Bool };\n" + actions)
+    uri = f"file://{room}/many.cedar"
+    with Client(program) as client:
+        client.start({"schema": f"file://{room}/many.cedarschema"})
+        client.open(uri, written(0))
+        held = {}
+        for number in range(1, 10001):
+            found = client.change(uri, written(number), number)
+            if number in (1000, 10000):
+                held[number] = client.memory()
+            if not found and (44 + number % 58) < 100:
+                counts.want(f"the fault of change {number}", False, found)
+        counts.want("memory behind 10,000 changes", held[10000] < 1.05 * held[1000], held)
+        counts.want("the end behind 10,000 changes", (status := client.end()) == 0, status)
+
+
+def session(room):
+    """A session with each kind of request and notification, as bytes."""
+    uri = f"file://{room}/a.cedar"
+    text = 'permit(principal, action, resource) when { principal.nam == "a" };'
+    params = position(uri, 0, 54)
+    range_ = {"start": params["position"], "end": params["position"]}
+    edit = {"textDocument": {"uri": uri, "version": 2}, "contentChanges": [{"range": range_, "text": "e"}]}
+    asked = [request(it, f"textDocument/{method}", params) for it, method in enumerate(("hover", "completion", "definition", "documentSymbol"), 2)]
+    asked.append(request(6, "textDocument/codeAction", {**params, "range": range_, "context": {"diagnostics": []}}))
+    told = [note("textDocument/didOpen", document(uri, text)), *asked, note("textDocument/didChange", edit), note("textDocument/didSave", params)]
+    return [request(1, "initialize", {"capabilities": {}}), note("initialized", {}), *told, note("textDocument/didClose", params), request(7, "shutdown"), note("exit")]
+
+
+def neovim(counts, program, room, is_recorded):
+    """The transcript of Neovim."""
+    if shutil.which("nvim") is None:
+        raise Missing("nvim")
+    photos = room / "photos"
+    shutil.copytree(EXAMPLES / "photos", photos)
+    env = {**os.environ, "SERVER": str(program), "FOLDER": str(photos), "HOME": str(room), "XDG_STATE_HOME": str(room)}
+    done = subprocess.run(["nvim", "--headless", "-u", "NONE", "-i", "NONE", "-c", f"luafile {EXAMPLES / 'session.lua'}"], env=env, stdin=subprocess.DEVNULL, capture_output=True, text=True, timeout=SECONDS)
+    seen = done.stdout.replace("\r\n", "\n")
+    page = PAGE.read_text(encoding="utf8")
+    if is_recorded:
+        PAGE.write_text(TRANSCRIPT.sub(lambda it: it[1] + seen + it[2], page), encoding="utf8")
+    wanted = TRANSCRIPT.search(page)
+    counts.want("the transcript of docs/EDITORS.md", is_recorded or wanted and wanted[0] == wanted[1] + seen + wanted[2], seen + done.stderr)
+    counts.want("Neovim stops the server", seen.endswith("stopped: true\n"), seen + done.stderr)
+
+
+def vim(counts, program, room):
+    """Vim jumps to the first finding by `:make`, behind letters of several bytes."""
+    if shutil.which("vim") is None:
+        raise Missing("vim")
+    validate = unproved.program("cedar_validate")
+    (room / "v.cedarschema").write_text(SCHEMA, encoding="utf8")
+    (room / "v.cedar").write_text('permit(principal, action, resource)\nwhen { "é👍" == "é👍" && principal.nam == "a" };\n', encoding="utf8")
+    script = room / "make.vim"
+    script.write_text(f"set makeprg={validate}\\ --columns\\ bytes\\ v.cedarschema\\ %\nset errorformat=%f:%l:%c:\\ %t%*[a-z]:\\ %m\nedit v.cedar\nsilent make\n"
+                      "call writefile([line('.') . ':' . strpart(getline('.'), col('.') - 1, 13)], 'at')\nqall!\n")
+    subprocess.run(["vim", "-es", "-u", "NONE", "-i", "NONE", "-S", script.name], cwd=room, stdin=subprocess.DEVNULL, capture_output=True, timeout=SECONDS, env={**os.environ, "HOME": str(room)})
+    at = (room / "at").read_text(encoding="utf8") if (room / "at").exists() else "nothing"
+    counts.want("Vim stands at the finding", at == "2:principal.nam\n", at)
+
+
+def main(words):
+    is_recorded = words[:1] == ["--record"]
+    programs = words[is_recorded:]
+    program = Path(programs[0]).resolve() if programs else unproved.program("cedar_language_server")
+    counts = Counts()
+    with tempfile.TemporaryDirectory(prefix="editors-") as held:
+        room = Path(held).resolve()
+        parts = ((phases,), (ends,), (frames,), (positions, room), (changes, room), (neovim, room, is_recorded), (vim, room))
+        for each, *more in parts:
+            try:
+                each(counts, program, *more)
+            except Missing as tool:
+                print(f"{each.__name__}: skipped, as the machine has no {tool}", flush=True)
+            except (OSError, ValueError, LookupError, TypeError, subprocess.SubprocessError, NoAnswer) as error:
+                counts.want(each.__name__, False, repr(error))
+    print(f"{counts.passed} passed, {counts.failed} failed")
+    return 1 if counts.failed or not counts.passed else 0
+
+
+if __name__ == "__main__":
+    try:
+        sys.exit(main(sys.argv[1:]))
+    except (unproved.KitDoesNotFit, unproved.DoesNotCompile) as error:
+        print(f"{error}\n0 passed, 1 failed")
+        sys.exit(1)

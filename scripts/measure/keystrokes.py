@@ -1,0 +1,101 @@
+#!/usr/bin/env python3
+"""What the language server takes while somebody writes: scripts/measure/keystrokes.py [PROGRAM].
+
+PROGRAM is cedar_language_server, by default as it is built without a proof. Instructions are counted by valgrind over whole
+sessions on files, by a schema of 300 actions that share their types. A session opens a document of 10 or of 1,000 policies; the
+figure of a keystroke is that of one more change, which writes one character more into the condition of a policy in the middle,
+about one action or about all. The editor sends each change as a range or as the whole text. Hover, completion and definition are
+asked once more each. The memory of 10,000 changes is held by scripts/editor_cases.py. It needs valgrind, and is no part of the
+gate.
+"""
+import subprocess
+import sys
+from functools import lru_cache
+
+from harness import FIGURE, Row, main, valgrind
+from gate.editor_client import document, frame, note, position, request
+
+ACTIONS = 300
+TAIL = " && resource.size > 123456789012345"
+# Changes of a session, of which the figure is one.
+CHANGES = 12
+SCHEMA = """entity Group;
+entity User in [Group] { name: String, age: Long, vip?: Bool, team: Group };
+entity Doc { owner: User, isPublic: Bool, size: Long, label?: String };
+""" + "".join(f"action act{it} appliesTo {{ principal: User, resource: Doc, context: {{ mfa: Bool, ip?: ipaddr }} }};\n" for it in range(ACTIONS))
+
+
+def policy(number, tail=""):
+    return (f'@id("p{number}")\npermit(principal, action == Action::"act{number % ACTIONS}", resource)\n'
+            f"when {{ principal == resource.owner || (resource.isPublic && principal.age > {number % 90}) }}\n"
+            f"unless {{ context.mfa && principal has vip && principal.vip && resource.size > 10{tail} }};\n")
+
+
+def wide(number, tail=""):
+    """A policy about all actions, in as many lines."""
+    return f'@id("p{number}")\npermit(principal, action, resource)\nwhen {{ principal.age > 10{tail} }};\n\n'
+
+
+def text(policies, middle, tail=""):
+    """A document of so many policies, of which the one in the middle is written by a function."""
+    return "".join((middle if it == policies // 2 else policy)(it, tail if it == policies // 2 else "") for it in range(policies))
+
+
+def session(bench, policies, middle, changes=0, by_ranges=True, asked=()):
+    """The instructions of a session."""
+    bench.write("s.cedarschema", SCHEMA)
+    uri = f"file://{bench.room}/p.cedar"
+    whole = text(policies, middle)
+    first = 4 * (policies // 2)
+    line, test = next((at, it) for at, it in enumerate(whole.splitlines()[first:], first) if "> 10" in it)
+    start = test.index("> 10") + 4
+    sent = [request(1, "initialize", {"capabilities": {}}), note("initialized", {}), note("textDocument/didOpen", document(uri, whole))]
+    for count in range(changes):
+        place = {"line": line, "character": start + count}
+        edit = {"range": {"start": place, "end": place}, "text": TAIL[count]} if by_ranges else {"text": text(policies, middle, TAIL[: count + 1])}
+        sent.append(note("textDocument/didChange", {"textDocument": {"uri": uri, "version": count + 2}, "contentChanges": [edit]}))
+    sent += [request(9, f"textDocument/{method}", position(uri, first + 2, at)) for method, at in asked]
+    given = b"".join(map(frame, [*sent, request(10, "shutdown"), note("exit")]))
+    below = valgrind("cachegrind", "--cache-sim=no", "--cachegrind-out-file=/dev/null")
+    done = subprocess.run([*below, bench.program], cwd=bench.room, input=given, capture_output=True)
+    if done.returncode:
+        sys.exit(f"{bench.program} ended with status {done.returncode}: {done.stderr[-300:]}")
+    return int(FIGURE.search(done.stderr.decode())[1].replace(",", ""))
+
+
+@lru_cache(None)
+def opened(bench, policies, middle):
+    return session(bench, policies, middle)
+
+
+def millions(count):
+    return round(count / 1e6, 2)
+
+
+def keystroke(middle, by_ranges):
+    def figure(bench, policies):
+        return millions((session(bench, policies, middle, CHANGES, by_ranges) - opened(bench, policies, middle)) / CHANGES)
+    return figure
+
+
+def question(method, at):
+    """The figure of a question at a character of the third line of the policy in the middle, at `resource.owner`."""
+    def figure(bench, policies):
+        return millions(session(bench, policies, policy, asked=[(method, at)]) - opened(bench, policies, policy))
+    return figure
+
+
+LINE = "{what}, in a document of {size} policies by 300 actions of shared types: {figure} million instructions"
+ROWS = (
+    Row("a schema is read and a document opened", (10, 1000), lambda bench, size: millions(opened(bench, size, policy)), LINE),
+    Row("a keystroke in a policy of one action, sent as a range", (10, 1000), keystroke(policy, True), LINE, most=3),
+    Row("a keystroke in a policy of one action, sent as the whole text", (10, 1000), keystroke(policy, False), LINE),
+    Row("a keystroke in a policy of all actions, sent as a range", (10, 1000), keystroke(wide, True), LINE, most=8),
+    Row("hover", (10,), question("hover", 25), LINE, most=2.5),
+    Row("completion", (10,), question("completion", 34), LINE, most=2.5),
+    Row("definition", (10,), question("definition", 34), LINE, most=2.5),
+)
+
+
+if __name__ == "__main__":
+    sys.exit(main(sys.argv[1:], ROWS, "cedar_language_server"))
