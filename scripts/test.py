@@ -165,8 +165,9 @@ def editors():
     return of_skipping_script("editor_cases.py")
 
 
-# The parts in the order in which they begin. Those that wait for one build stand in one line, one after another.
-LINES = ((programs, refused, queries, editors), (tests,), (product, applications, callers), (pieces, texts))
+# The parts in the order in which they begin, in four lines side by side. A line begins with a build; those that wait for it
+# stand behind it.
+LINES = ((programs, refused, queries, editors), (tests, texts), (product, applications, pieces), (callers,))
 PARTS = {part.__name__: part for line in LINES for part in line}
 
 

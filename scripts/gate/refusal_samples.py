@@ -127,6 +127,7 @@ def outcomes():
         yield f"{name}: {answer(output)}", answer(output) == wanted
     for name, output, wanted in BY_VALUES:
         yield f"by values: {name}", answer(output, True) == wanted
+    yield "a check that did not come to its end", answer("") == NOT_TRIED
     yield "an answer that is taken out", refusals.without_answers(ANSWERS, {"returns"}) == LEFT
     yield "the answers that broke", answers_that_broke(GONE) == [("proofs/rounds/f/Answers.antt", "returns")]
     invariant = by_hand("`l` has no field `x`", "invariant-loop-x", "proofs/rounds/f/Invariants.antt:4:9")

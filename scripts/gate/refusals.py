@@ -41,7 +41,9 @@ class NotTried(Fault):
 
 
 def is_proved(output):
-    return len({*ASKED.findall(output)[-1]}) == 1
+    """Whether a check says that all that it was asked about is proved; one that did not come to its end says nothing."""
+    asked = ASKED.findall(output)
+    return bool(asked) and len({*asked[-1]}) == 1
 
 
 def first_error(output):
