@@ -24,9 +24,14 @@ MAKERS = {
     "libraries": api_pages.libraries,
     "tasks": api_pages.first_tasks,
     **promise.makers(),
+    **promise.FORM_MAKERS,
 }
 # The blocks that a page must have.
-BLOCKS = {api_pages.OVERVIEW: ("libraries", "tasks"), promise.PAGE: tuple(promise.makers())}
+BLOCKS = {
+    api_pages.OVERVIEW: ("libraries", "tasks"),
+    promise.PAGE: tuple(promise.makers()),
+    promise.FORMS_PAGE: tuple(promise.FORM_MAKERS),
+}
 MADE = re.compile(r"^<!-- made: (\w+) -->\n(.*?)^<!-- end -->$", re.M | re.S)
 PAGE = re.compile(r"[^/]+\.md|docs/(?:api/)?[^/]+\.md")
 

@@ -49,7 +49,7 @@ local function complete(line, text, offset)
 end
 local function define(line, text, offset)
   local r = ask("textDocument/definition", params(line, text, offset))
-  say("-- definition %d `%s`", line, text)
+  say("-- declaration of `%s` in line %d", text, line)
   for _, l in ipairs(type(r) == "table" and r or {}) do say("%s:%d:%d", l.uri:match("[^/]*$"), l.range.start.line + 1, l.range.start.character + 1) end
 end
 hover(4, "resource", 2)

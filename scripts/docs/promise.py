@@ -1,7 +1,9 @@
-"""Makes what docs/PROMISE.md shows of the sources: the clauses of the promise, the definitions behind them, and its other forms.
+"""Makes what docs/PROMISE.md shows of the sources, the clauses of the promise and the definitions behind them, and what
+docs/THEOREMS.md shows: the other forms of the promise.
 
-A block of the page is a definition as it stands in its file, below a link. A definition that is renamed, or a clause that is gone,
-is a fault, and so is a page that lacks a block: scripts/pages.py says which.
+A block of a page is a definition as it stands in its file, below a link. A definition that is renamed, or a clause that is gone,
+is a fault, and so is a page that lacks a block: scripts/pages.py says which. A definition that PROMISE says in words alone is
+a fault if it changes, because its words must then change too.
 """
 import re
 
@@ -9,6 +11,7 @@ from docs import definitions, files as listings, trusted
 from docs.definitions import Gone
 
 PAGE = "docs/PROMISE.md"
+FORMS_PAGE = "docs/THEOREMS.md"
 FOLDER = "docs"
 CALL = ("crates/cedar_host/src/slices.rt", *trusted.PROMISE)
 HOST, LEVELS, TYPING, TYPES = (f"crates/cedar_{name}/specs" for name in ("host", "typechecker", "typing", "types"))
@@ -20,45 +23,71 @@ BLOCKS = {
         "Failure": f"{TYPING}/Evaluation/World.antt",
     },
     "safe": {"DoesNotGoWrong": f"{HOST}/Safety.antt"},
-    "outcomes": {
-        "IsBooleanOrAllowed": f"{TYPING}/Soundness/PolicyCheck.antt",
-        "IsSafe": f"{TYPING}/Soundness.antt",
-        "IsAllowed": f"{TYPING}/Soundness.antt",
-        "OnValue": f"{TYPING}/Soundness.antt",
-    },
-    "never_true": {
-        "IsNeverTrue": f"{HOST}/Safety.antt",
-        "IsTrueOutcome": f"{TYPING}/Soundness.antt",
-    },
-    "sliced": {
-        "NeedsSliceAlone": f"{HOST}/Slices.antt",
-        "IsKeptInSlices": f"{LEVELS}/Slices/Validation.antt",
-    },
-    "same": {
-        "IsSameInSlices": f"{LEVELS}/Slices/Policies.antt",
-        "IsSameIn": f"{LEVELS}/Slices/Policies.antt",
-    },
+    "never_true": {"IsNeverTrue": f"{HOST}/Safety.antt"},
+    "sliced": {"NeedsSliceAlone": f"{HOST}/Slices.antt"},
     "part": {
         "HoldsSlice": f"{LEVELS}/Slices/Reach.antt",
         "IsPartOf": f"{LEVELS}/Slices/Reach.antt",
     },
     "slice": {
         "slice": f"{LEVELS}/Slices/Reach.antt",
-        "reach_below": f"{LEVELS}/Slices/Reach.antt",
         "reach": f"{LEVELS}/Slices/Reach.antt",
     },
-    "well_formed": {"IsWellFormed": f"{TYPING}/Soundness/Policies.antt"},
-    "conforming": {"IsConforming": f"{TYPING}/Soundness/Policies.antt"},
+    "premises": {
+        "IsWellFormed": f"{TYPING}/Soundness/Policies.antt",
+        "IsConforming": f"{TYPING}/Soundness/Policies.antt",
+    },
 }
 SHOWN = {name: path for block in BLOCKS.values() for name, path in block.items()}
-# The tables of further words: a definition of each, with its file.
+# Those that it shows without the comment above them, because its words say all of it.
+BARE = ("IsNeverTrue", "NeedsSliceAlone", "HoldsSlice", "slice", "reach", "IsWellFormed", "IsConforming")
+# The definitions that the page says in words alone: each with its file, and with its lines behind the type.
+SAID = {
+    "IsBooleanOrAllowed": (f"{TYPING}/Soundness/PolicyCheck.antt", "IsBooleanOrAllowed o = IsSafe o × OnValue IsBoolean o"),
+    "IsBoolean": (f"{TYPING}/Soundness/PolicyCheck.antt", "IsBoolean = OnBool (λ b. Unit {0})"),
+    "IsSafe": (f"{TYPING}/Soundness.antt", "IsSafe (Gives v) = Unit {0}", "IsSafe (Fails f) = IsAllowed f"),
+    "IsAllowed": (
+        f"{TYPING}/Soundness.antt",
+        "IsAllowed TypeFailure = ⊥",
+        "IsAllowed AbsentAttribute = ⊥",
+        "IsAllowed AbsentTag = ⊥",
+        "IsAllowed MissingEntity = Unit {0}",
+        "IsAllowed Overflow = Unit {0}",
+        "IsAllowed ExtensionFailure = Unit {0}",
+        "IsAllowed UnlinkedSlot = ⊥",
+        "IsAllowed UnknownValue = ⊥",
+    ),
+    "OnValue": (f"{TYPING}/Soundness.antt", "OnValue P (Gives v) = P v", "OnValue P (Fails f) = Unit {0}"),
+    "IsTrueOutcome": (
+        f"{TYPING}/Soundness.antt",
+        "IsTrueOutcome (Gives v) = OnBool IsTrue v",
+        "IsTrueOutcome (Fails f) = ⊥",
+    ),
+    "IsKeptInSlices": (
+        f"{LEVELS}/Slices/Validation.antt",
+        "pub safe : IsBooleanOrAllowed (eval world (condition_of t))",
+        "pub same : IsSameInSlices t world n",
+    ),
+    "IsSameInSlices": (
+        f"{LEVELS}/Slices/Policies.antt",
+        "IsSameInSlices t world n =",
+        "(part : Store) → HoldsSlice world.request world.store n part → IsSameIn t world part",
+    ),
+    "IsSameIn": (
+        f"{LEVELS}/Slices/Policies.antt",
+        "IsSameIn t world part =",
+        "eval (with_store world part) (condition_of t) ≡ eval world (condition_of t)",
+    ),
+    "with_store": (f"{LEVELS}/Slices/Soundness.antt", "with_store world part = record world { store = part }"),
+    "reach_below": (
+        f"{LEVELS}/Slices/Reach.antt",
+        "reach_below r store zero = []",
+        "reach_below r store (suc n) = reach_below r store n ++ reach r store n",
+    ),
+}
+ON_PAGE = SHOWN | {name: path for name, (path, *_) in SAID.items()}
+# The table of further words: a definition of each, with its file.
 WORDS = {
-    "words_of_policies": {
-        "has_external": f"{TYPING}/Evaluation/Conformance.antt",
-        "HasNoUnknowns": f"{TYPING}/Silence.antt",
-        "SlotsInScopeAlone": f"{TYPING}/Composition.antt",
-        "SlotsBound": f"{TYPING}/Evaluation/Conformance.antt",
-    },
     "words_of_worlds": {
         "ConformingRequest": f"{TYPING}/Evaluation/Conformance.antt",
         "FitsRequest": f"{TYPING}/Evaluation/Conformance.antt",
@@ -68,7 +97,7 @@ WORDS = {
 }
 EVAL = f"{TYPING}/Evaluation/Eval.antt"
 # The forms of expressions of which the page shows how they are evaluated.
-FORMS = ("var", "if_then_else", "and", "get_attr")
+FORMS = ("get_attr",)
 # What every form of the promise comes down to.
 ROOTS = ("IsBooleanOrAllowed", "IsSafe", "IsTrueOutcome", "IsSameIn")
 # Where other forms stand, the lowest first.
@@ -84,16 +113,33 @@ def block(links, lines, language="text"):
     return [f"From {', '.join(links)}:", "", f"```{language}", *lines, "```"]
 
 
+def lines_of(files, found):
+    """A definition as the page shows it."""
+    lines = definitions.text_of(files, found)
+    first = next(at for at, line in enumerate(lines) if not definitions.is_comment(line))
+    return lines[first:] if found.name in BARE else lines
+
+
 def definition(mark, files):
     """The definitions of a block, below links to their places."""
     found = [definitions.find(files, path, name) for name, path in BLOCKS[mark].items()]
     links = dict.fromkeys(at(it.path, next(one.line for one in found if one.path == it.path)) for it in found)
-    lines = [line for it in found for line in ["", *definitions.text_of(files, it)]]
+    lines = [line for it in found for line in ["", *lines_of(files, it)]]
     return block(links, lines[1:])
+
+
+def check_said(files):
+    """Refuses a definition that is another one than the page says in words."""
+    for name, (path, *lines) in SAID.items():
+        found = definitions.text_of(files, definitions.find(files, path, name))
+        code = [line.strip() for line in found if not definitions.is_comment(line)]
+        if code[1:] != lines:
+            raise Gone(f"`{name}` of {path} is another definition: say it anew in {PAGE}, and in scripts/docs/promise.py")
 
 
 def clauses(files):
     """The clauses of the call that are the promise."""
+    check_said(files)
     path, function, names = CALL
     own = trusted.clauses_of(files.get(path, ""), function)
     gone = [name for name in names if name not in own]
@@ -128,8 +174,8 @@ def evaluation(files):
 # ---- the other forms
 
 def forms(known):
-    """The propositions that come down to one of ROOTS and that the page does not show, by file."""
-    found = {(SHOWN[name], name) for name in ROOTS}
+    """The propositions that come down to one of ROOTS and that the page neither shows nor says, by file."""
+    found = {(ON_PAGE[name], name) for name in ROOTS}
     cites = {
         (path, tuple(names)): set(known.cited(path, lines)) - {(path, name) for name in names}
         for path, parts in known.blocks.items() for names, lines in parts
@@ -139,7 +185,7 @@ def forms(known):
         size = len(found)
         found |= {(path, name) for (path, names), cited in cites.items() if cited & found for name in names if name[0].isupper()}
     by_file = {}
-    for path, name in sorted(found - {(path, name) for name, path in SHOWN.items()}):
+    for path, name in sorted(found - {(path, name) for name, path in ON_PAGE.items()}):
         if not re.search(r"/(Examples|NeededPremises)\b", path) and path.split("/")[1] in CRATES:
             by_file.setdefault(path, []).append(name)
     return by_file
@@ -154,14 +200,18 @@ def other_forms(files):
     for path, numbers in reached.items():
         cited = {name for number in numbers for name in known.blocks[path][number][0]} & set(by_file.get(path, ()))
         if cited:
-            raise Gone(f"the promise cites `{min(cited)}` of {path}, which scripts/docs/promise.py has to show")
+            raise Gone(f"the promise cites `{min(cited)}` of {path}, which scripts/docs/promise.py has to show or to say")
     ordered = sorted(by_file, key=lambda path: (CRATES.index(path.split("/")[1]), path))
     rows = [f"| {at(path)} | {', '.join(f'`{name}`' for name in by_file[path])} |" for path in ordered]
     return [f"{sum(map(len, by_file.values()))} definitions:", "", "| File | Forms |", "|---|---|", *rows]
 
 
 def makers():
-    """Each block of the page, by the name of its mark, with the function that makes it."""
+    """Each block of PROMISE, by the name of its mark, with the function that makes it."""
     shown = {f"promise_{mark}": lambda files, mark=mark: definition(mark, files) for mark in BLOCKS}
     tables = {name: lambda files, name=name: words(name, files) for name in WORDS}
-    return {"promise_clauses": clauses, "promise_evaluation": evaluation, **shown, **tables, "other_forms": other_forms}
+    return {"promise_clauses": clauses, "promise_evaluation": evaluation, **shown, **tables}
+
+
+# The block of THEOREMS.
+FORM_MAKERS = {"other_forms": other_forms}
