@@ -24,7 +24,7 @@ TOP = Path(__file__).resolve().parent.parent
 EXAMPLES = TOP / "examples" / "editors"
 PAGE = TOP / "docs" / "EDITORS.md"
 TRANSCRIPT = re.compile(r"(<!-- transcript of scripts/editor_cases.py -->\n\n````text\n).*?(````\n\n<!-- end of the transcript -->)", re.S)
-SECONDS = 120
+SECONDS = 600
 # Codes of JSON-RPC and of the protocol.
 NO_JSON, NO_REQUEST, NO_METHOD, BAD_PARAMETERS, NO_MEMORY, NOT_INITIALIZED = -32700, -32600, -32601, -32602, -32603, -32002
 SCHEMA = "entity User = { name: String };\naction view appliesTo { principal: User, resource: User };\n"

@@ -1,16 +1,17 @@
 -- A session of Neovim with the language server, as scripts/editor_cases.py runs it: SERVER is the program, FOLDER a copy of photos/.
 local server, dir = os.getenv("SERVER"), os.getenv("FOLDER")
 local function say(...) io.stdout:write(string.format(...), "\n") end
+-- How long an answer may take, in milliseconds: a busy machine takes its time, and a wait ends as soon as the answer is there.
+local MOST = 60000
+local function wait_until(holds) vim.wait(MOST, holds, 10) end
 local file = dir .. "/edit.cedar"
 vim.cmd("edit " .. file)
 local buf = vim.api.nvim_get_current_buf()
 local id = vim.lsp.start_client({ name = "cedar", cmd = { server }, root_dir = dir })
 vim.lsp.buf_attach_client(buf, id)
 local client = vim.lsp.get_client_by_id(id)
-assert(vim.wait(5000, function() return client.initialized end, 10), "no answer to initialize")
+assert(vim.wait(MOST, function() return client.initialized end, 10), "no answer to initialize")
 say("server %s", vim.inspect(client.server_capabilities.hoverProvider))
-local seen = 0
-local old = vim.lsp.handlers["textDocument/publishDiagnostics"]
 local function diagnostics(title)
   say("-- %s", title)
   for _, d in ipairs(vim.diagnostic.get(buf)) do
@@ -20,10 +21,7 @@ local function diagnostics(title)
       vim.diagnostic.severity[d.severity], tostring(d.user_data and d.user_data.lsp and d.user_data.lsp.code or d.code), part, d.message:gsub("\n", " / "))
   end
 end
-local function settle(n)
-  vim.wait(3000, function() return #vim.diagnostic.get(buf) == n end, 10)
-end
-vim.wait(3000, function() return #vim.diagnostic.get(buf) > 0 end, 10)
+wait_until(function() return #vim.diagnostic.get(buf) > 0 end)
 diagnostics("opened")
 local function params(line, text, offset)
   local l = vim.api.nvim_buf_get_lines(buf, line - 1, line, false)[1]
@@ -32,7 +30,7 @@ local function params(line, text, offset)
   return vim.lsp.util.make_position_params(0, client.offset_encoding)
 end
 local function ask(method, p)
-  local r = client.request_sync(method, p, 5000, buf)
+  local r = client.request_sync(method, p, MOST, buf)
   if not r then return "no answer" end
   if r.err then return vim.inspect(r.err) end
   return r.result
@@ -77,26 +75,23 @@ fix(4, "isPubic", 2)
 fix(8, "principal.vip", 11)
 fix(15, "Usr", 1)
 fix(15, "viw", 1)
-vim.wait(1000, function() return #vim.diagnostic.get(buf) == 0 end, 10)
+wait_until(function() return #vim.diagnostic.get(buf) == 0 end)
 diagnostics("mended")
 -- what is being written
 set(8, "when { principal. };")
-vim.wait(1000, function() return #vim.diagnostic.get(buf) > 0 end, 10)
+wait_until(function() return #vim.diagnostic.get(buf) > 0 end)
 diagnostics("a point")
 complete(8, "principal.", 10)
 set(8, "when { principal has vip && principal.v };")
-vim.wait(300)
 complete(8, "principal.v", 11)
 set(8, "when { resource.owner has  };")
-vim.wait(300)
 complete(8, "has ", 4)
 set(7, "permit(principal is , action == , resource)")
-vim.wait(300)
 complete(7, "is ", 3)
 complete(7, "action == ", 10)
 set(7, "permit(principal, action, resource)")
 set(8, "when { true };")
-vim.wait(1000, function() return #vim.diagnostic.get(buf) == 0 end, 10)
+wait_until(function() return #vim.diagnostic.get(buf) == 0 end)
 diagnostics("mended again")
 -- symbols
 local r = ask("textDocument/documentSymbol", { textDocument = vim.lsp.util.make_text_document_params(buf) })
@@ -106,16 +101,15 @@ for _, s in ipairs(r) do say("%s %d", s.name, s.range.start.line + 1) end
 vim.cmd("edit " .. dir .. "/photos.cedarschema")
 local sbuf = vim.api.nvim_get_current_buf()
 vim.lsp.buf_attach_client(sbuf, id)
-vim.wait(300)
 local lines = vim.api.nvim_buf_get_lines(sbuf, 0, -1, false)
 for n, l in ipairs(lines) do if l:find("isPublic") then vim.api.nvim_buf_set_lines(sbuf, n - 1, n, false, { (l:gsub("isPublic", "isOpen")) }) end end
-vim.wait(1000, function() return #vim.diagnostic.get(buf) > 0 end, 10)
+wait_until(function() return #vim.diagnostic.get(buf) > 0 end)
 diagnostics("after the schema was edited, unsaved")
 vim.api.nvim_buf_set_lines(sbuf, 0, 1, false, { "entity User = { name: Strng };" })
-vim.wait(500)
+wait_until(function() return #vim.diagnostic.get(sbuf) > 0 end)
 say("-- the schema with a fault")
 for _, d in ipairs(vim.diagnostic.get(sbuf)) do say("%d:%d %s", d.lnum + 1, d.col + 1, d.message) end
 vim.lsp.stop_client(id)
-vim.wait(2000, function() return client.is_stopped() end, 10)
+wait_until(function() return client.is_stopped() end)
 say("stopped: %s", tostring(client.is_stopped()))
 vim.cmd("qa!")

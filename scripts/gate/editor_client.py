@@ -5,7 +5,7 @@ import select
 import subprocess
 import time
 
-SECONDS = 60
+SECONDS = 300
 
 
 def frame(message):
