@@ -4,7 +4,6 @@ ghost use Rattle.cedar_verdicts.specs.Verdicts.{basis_of};
 ghost use Rattle.cedar_editor.specs.Checks.{has_shown_error, IsRightlySaid, IsSafeAsShown};
 
 use crate::readings::{FaultyReading, Reading, read_policy};
-use crate::tokens::token_from;
 use cedar_findings::faults::TextFault;
 use cedar_findings::findings::{Finding, Requirement, Verdict};
 use cedar_types::base::{ArgumentCheck, ExtensionSchemas, Loc, Template};
@@ -78,7 +77,7 @@ pub fn read_alone<C>(
         return Ok(None);
     };
     let own = String::from_str(alloc, text)?;
-    let names_itself = names_itself(text);
+    let names_itself = reading.names_itself(text);
     let (template, fault) = match reading {
         Reading::Whole(template) => (template, None),
         Reading::Faulty(
@@ -116,7 +115,7 @@ pub fn check_policy<C: ArgumentCheck>(
         return Ok(None);
     };
     let own = String::from_str(alloc, text)?;
-    let names_itself = names_itself(text);
+    let names_itself = reading.names_itself(text);
     match reading {
         Reading::Whole(template) => {
             let verdict = judge(alloc, settings, text, &template)?;
@@ -159,8 +158,8 @@ fn judge_good_parts<C: ArgumentCheck>(
     let mut errors = Vec::new(alloc);
     for error in said.errors {
         let place = place_of(&error);
-        // an error of the whole policy may go away, and so may one of the unfinished part, for example that it is no Boolean
-        if Some(place) != whole && Some(place) != faulty.unfinished {
+        // an error of the whole policy may go away, and so may one of a part that may go on, for example that it is no Boolean
+        if Some(place) != whole && !may_go_on(text, place, faulty.unfinished) {
             errors.push(error)?;
         }
     }
@@ -174,39 +173,25 @@ fn judge_good_parts<C: ArgumentCheck>(
     })
 }
 
+/// Whether a part may go on behind the unfinished part, because nothing but brackets stands between their ends.
+fn may_go_on(text: &str, part: Loc, unfinished: Option<Loc>) -> bool {
+    let Some(unfinished) = unfinished else {
+        return false;
+    };
+    match text.get(part.end..unfinished.end) {
+        Some(between) => between
+            .trim_matches(|c: char| c == ')' || c.is_whitespace())
+            .is_empty(),
+        None => false,
+    }
+}
+
 /// The place of a finding in the policy's text.
 pub fn place_of(finding: &Finding) -> Loc {
     Loc {
         start: finding.start,
         end: finding.end,
     }
-}
-
-/// Whether one of the annotations with which a policy begins is `@id`.
-fn names_itself(text: &str) -> bool {
-    let mut at = 0usize;
-    for _ in 0..text.len() {
-        let mark = token_from(text, at);
-        if !mark.is("@") {
-            return false;
-        }
-        let key = token_from(text, mark.place.end);
-        if key.is("id") {
-            return true;
-        }
-        at = behind_value(text, key.place.end);
-    }
-    false
-}
-
-/// The byte at which the value of an annotation ends, brackets included; `from` if no value stands there.
-fn behind_value(text: &str, from: usize) -> usize {
-    let open = token_from(text, from);
-    if !open.is("(") {
-        return from;
-    }
-    let value = token_from(text, open.place.end);
-    token_from(text, value.place.end).place.end
 }
 
 /// The sum of a text by the method of Fowler, Noll and Vo (FNV-1a).

@@ -70,6 +70,8 @@ enum Expected {
     EntityType,
     Action,
     Operand,
+    /// No name, because the policy has ended.
+    Nothing,
 }
 
 /// The completion at a byte of a policy: the items that may be written there. If memory is refused, the answer is an
@@ -80,8 +82,27 @@ pub fn completion_at<C: ArgumentCheck>(
     policy: &CheckedPolicy,
     byte: usize,
 ) -> Result<Completion, AllocError> {
-    let text = policy.text.as_str();
-    let byte = byte.min(text.len());
+    let own = policy.text.as_str();
+    if byte <= own.len() {
+        return completion_in(alloc, settings, own, byte);
+    }
+    // a blank stands for those between the text of the policy and the byte
+    let text = format!(in alloc; "{own} ")?;
+    let Completion { items, .. } = completion_in(alloc, settings, text.as_str(), text.len())?;
+    let place = Loc {
+        start: byte,
+        end: byte,
+    };
+    Ok(Completion { place, items })
+}
+
+/// The completion at a byte of a policy's text.
+fn completion_in<C: ArgumentCheck>(
+    alloc: Global,
+    settings: &Settings<'_, C>,
+    text: &str,
+    byte: usize,
+) -> Result<Completion, AllocError> {
     let before = text.get(..byte).unwrap_or("");
     let schema = settings.validator.schema();
     let word = before.trim_end_matches(is_in_word).len();
@@ -113,6 +134,7 @@ pub fn completion_at<C: ArgumentCheck>(
             add_all(alloc, ItemKind::Operand, &OPERANDS, &mut items)?;
             word
         }
+        Expected::Nothing => word,
     };
     let place = Loc { start, end: byte };
     Ok(Completion { place, items })
@@ -140,15 +162,26 @@ fn expected_at(alloc: Global, before: &str) -> Result<Expected, AllocError> {
 /// The kind of name that may stand behind these tokens.
 fn expected_behind(tokens: &[Token<'_>]) -> Expected {
     let mut is_compared = false;
+    // a comma stands between names that are compared only inside of brackets
+    let mut is_behind_comma = false;
     for token in tokens.iter().rev() {
+        let is_passed = is_compared || is_behind_comma;
         match token.text {
-            "." => return Expected::Member,
-            "has" if !is_compared => return Expected::Attribute,
-            "is" => return Expected::EntityType,
-            "action" if is_compared => return Expected::Action,
-            "principal" | "resource" if is_compared => return Expected::EntityType,
-            "==" | "in" | "[" | "," | "::" => is_compared = true,
-            _ if is_compared && matches!(token.kind, TokenKind::Text | TokenKind::Word) => {}
+            ";" => return Expected::Nothing,
+            "." if !is_passed => return Expected::Member,
+            "has" if !is_passed => return Expected::Attribute,
+            "is" if !is_behind_comma => return Expected::EntityType,
+            "action" if is_compared && !is_behind_comma => return Expected::Action,
+            "principal" | "resource" if is_compared && !is_behind_comma => {
+                return Expected::EntityType;
+            }
+            "==" | "in" | "::" => is_compared = true,
+            "," => is_behind_comma = true,
+            "[" => {
+                is_compared = true;
+                is_behind_comma = false;
+            }
+            _ if is_passed && matches!(token.kind, TokenKind::Text | TokenKind::Word) => {}
             _ => return Expected::Operand,
         }
     }

@@ -125,12 +125,16 @@ impl<'a> Reader<'a> {
         let mut names = Vec::new(alloc);
         for _ in self.at..self.text.len() {
             let token = token_from(self.text, self.at);
-            if is_own_name(token) {
-                names.push(token)?;
-            } else if !token.is(",") {
+            if !is_own_name(token) {
                 break;
             }
+            names.push(token)?;
             self.at = token.place.end;
+            let mark = token_from(self.text, self.at);
+            if !mark.is(",") {
+                break;
+            }
+            self.at = mark.place.end;
         }
         Ok(names)
     }
@@ -159,7 +163,7 @@ struct Scan {
     body: Option<usize>,
 }
 
-/// The scan of a declaration behind its names, up to its `;`.
+/// The scan of a declaration behind its names, up to its `;`, or to where it ends without one.
 fn scan_declaration(text: &str, from: usize, kind: DeclaredKind) -> Scan {
     let mut scan = Scan {
         end: from,
@@ -168,8 +172,11 @@ fn scan_declaration(text: &str, from: usize, kind: DeclaredKind) -> Scan {
     let mut depth = 0usize;
     for _ in from..text.len() {
         let token = token_from(text, scan.end);
+        if begins_declaration(text, token) || (depth == 0 && token.is("}")) {
+            break;
+        }
         scan.end = token.place.end;
-        if token.kind == TokenKind::End || (depth == 0 && token.is(";")) {
+        if token.kind == TokenKind::End || token.is(";") {
             break;
         }
         if scan.body.is_none() {
@@ -182,6 +189,12 @@ fn scan_declaration(text: &str, from: usize, kind: DeclaredKind) -> Scan {
         }
     }
     scan
+}
+
+/// Whether a token begins a declaration or a namespace: a word for one, and a name behind it.
+fn begins_declaration(text: &str, token: Token<'_>) -> bool {
+    let is_word = matches!(token.text, "namespace" | "entity" | "action" | "type");
+    is_word && is_own_name(token_from(text, token.place.end))
 }
 
 /// The byte at which the type with the attributes begins, if this token leads to it. `depth` brackets are open around the

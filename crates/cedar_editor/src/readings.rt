@@ -1,6 +1,7 @@
 // Readings of a policy's text, as far as it can be read.
+use crate::tokens::token_from;
 use cedar_findings::faults::{TextFault, Written, read_fault};
-use cedar_reading::{FaultyPolicy, ReadError, ReadPolicy, policies_with_faults};
+use cedar_reading::{Annotation, FaultyPolicy, ReadError, ReadPolicy, policies_with_faults};
 use cedar_types::base::{
     ActionConstraint, Expr, ExtensionSchemas, Loc, PrincipalConstraint, ResourceConstraint,
     Template,
@@ -13,6 +14,8 @@ use std::alloc::{AllocError, Global};
 #[derive(Drop)]
 pub struct FaultyReading {
     pub template: Template,
+    /// The id was read in the text of the policy.
+    pub names_itself: bool,
     pub fault: TextFault,
     /// The place of the expression left of the fault in a condition, if there is one.
     pub unfinished: Option<Loc>,
@@ -33,10 +36,19 @@ impl Reading {
             Reading::Faulty(
                 FaultyReading {
                     template,
+                    names_itself: _,
                     fault: _fault,
                     unfinished: _unfinished,
                 },
             ) => template,
+        }
+    }
+
+    /// Whether the id was read in the text of the policy, which is this one.
+    pub fn names_itself(&self, text: &str) -> bool {
+        match self {
+            Reading::Whole(_) => names_itself(text),
+            Reading::Faulty(faulty) => faulty.names_itself,
         }
     }
 }
@@ -66,6 +78,7 @@ pub fn read_policy<C>(
         // the policy was read whole, but one of its parts may not stand there
         Some(Ok(ReadPolicy { template, .. })) => Ok(Some(Reading::Faulty(FaultyReading {
             template,
+            names_itself: names_itself(text),
             fault,
             unfinished: None,
         }))),
@@ -87,7 +100,7 @@ fn reading_of(
         start,
         place,
         id,
-        annotations: _annotations,
+        annotations,
         effect: _,
         principal,
         action,
@@ -110,9 +123,42 @@ fn reading_of(
     );
     Ok(FaultyReading {
         template,
+        names_itself: has_id(annotations.as_slice()),
         fault: read_fault(alloc, Written::Policies, text, ReadError::At(start, fault))?,
         unfinished: open,
     })
+}
+
+/// Whether one of these annotations is `@id`.
+fn has_id(annotations: &[Annotation]) -> bool {
+    annotations.iter().any(|it| it.key.as_str() == "id")
+}
+
+/// Whether one of the annotations with which a whole policy begins is `@id`.
+fn names_itself(text: &str) -> bool {
+    let mut at = 0usize;
+    for _ in 0..text.len() {
+        let mark = token_from(text, at);
+        if !mark.is("@") {
+            return false;
+        }
+        let key = token_from(text, mark.place.end);
+        if key.is("id") {
+            return true;
+        }
+        at = behind_value(text, key.place.end);
+    }
+    false
+}
+
+/// The byte at which the value of an annotation ends, brackets included; `from` if no value stands there.
+fn behind_value(text: &str, from: usize) -> usize {
+    let open = token_from(text, from);
+    if !open.is("(") {
+        return from;
+    }
+    let value = token_from(text, open.place.end);
+    token_from(text, value.place.end).place.end
 }
 
 fn joined(alloc: Global, first: Expr, last: Expr) -> Result<Expr, AllocError> {
