@@ -130,7 +130,10 @@ const LINES: [(&str, &str); 60] = [
         "standard input, `-`, can be read once",
     ),
     ("--entity e s p", "there is no option `--entity`"),
-    ("--columns utf16 s p", "strict, no level, lines in utf16: s, p"),
+    (
+        "--columns utf16 s p",
+        "strict, no level, lines in utf16: s, p",
+    ),
     (
         "s p --json --columns=bytes",
         "strict, no level, objects in bytes: s, p",
