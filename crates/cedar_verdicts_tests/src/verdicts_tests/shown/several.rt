@@ -74,10 +74,17 @@ fn files_in_both_syntaxes(rt: HostRuntime) -> Result<(), Fail> {
     let alloc = rt.alloc();
     let condition = r#"{".": {"left": {"Var": "resource"}, "attr": "isPublic"}}"#;
     let one = format!(in alloc; "{JSON_BEFORE}{condition}{JSON_BEHIND}")?;
-    let list = format!(in alloc; "[{one}]")?;
     let text =
         "permit(principal, action == Team::Action::\"view\", resource) when { resource.isPublic };";
-    let files = [("p", one.as_str()), ("q", text), ("-", list.as_str())];
+    // the three files in one text, because parts of one text can stand in one list
+    let all = format!(in alloc; "{one}#{text}#[{one}]")?;
+    let Some((one, others)) = all.split_once("#") else {
+        panic!(rt; "there are three files");
+    };
+    let Some((text, list)) = others.split_once("#") else {
+        panic!(rt; "there are three files");
+    };
+    let files = [("p", one), ("q", text), ("-", list)];
     let output = output_in(&rt, "lines", Texts::of_policies(TEAM, &files))?;
     assert_eq!(rt;
         output.shown(),

@@ -1,4 +1,4 @@
-// What is shown of all texts of a call, in a format.
+// The output of all texts of a call, in a format.
 use crate::verdicts_tests::asked::cedar_functions;
 use cedar_findings::colours::Colours;
 use cedar_findings::columns::Columns;
@@ -17,19 +17,19 @@ use std::alloc::{AllocError, Global};
 use std::process::Abort;
 use std::test::Fail;
 
-/// The texts of a call: the schema `s`, policies by the names of their files, and where there are such, the entities `e` and the
+/// The texts of a call: the schema `s`, policies by the names of their files, and if there are such, the entities `e` and the
 /// request `q`.
 #[derive(Clone, Copy)]
-pub struct Texts<'a> {
-    pub schema: &'a str,
-    pub policies: &'a [(&'a str, &'a str)],
-    pub entities: Option<&'a str>,
-    pub request: Option<&'a str>,
+pub struct Texts<'p, 'd> {
+    pub schema: &'p str,
+    pub policies: &'p [(&'p str, &'p str)],
+    pub entities: Option<&'d str>,
+    pub request: Option<&'d str>,
 }
 
-impl<'a> Texts<'a> {
+impl<'p> Texts<'p, 'p> {
     /// A schema and policies, without data.
-    pub fn of_policies(schema: &'a str, policies: &'a [(&'a str, &'a str)]) -> Texts<'a> {
+    pub fn of_policies(schema: &'p str, policies: &'p [(&'p str, &'p str)]) -> Texts<'p, 'p> {
         Texts {
             schema,
             policies,
@@ -39,11 +39,11 @@ impl<'a> Texts<'a> {
     }
 }
 
-/// What these texts come to in the format of this name, which there is.
+/// The output of these texts in the format of this name, which must be one.
 pub fn output_in(
     rt: &(impl Abort + AllocGlobal),
     format: &str,
-    texts: Texts<'_>,
+    texts: Texts<'_, '_>,
 ) -> Result<Output, Fail> {
     let alloc = rt.alloc();
     let Some(format) = Format::by_name(format) else {
@@ -59,7 +59,7 @@ pub fn output_in(
     Ok(output)
 }
 
-/// The schema of a text, or `None` where its faults are shown.
+/// The schema of a text, or `None` if its faults are shown.
 fn schema_shown(
     alloc: Global,
     text: &str,
@@ -77,7 +77,7 @@ fn schema_shown(
 fn show_texts(
     alloc: Global,
     schema: ValidatorSchema,
-    texts: Texts<'_>,
+    texts: Texts<'_, '_>,
     output: &mut Output,
 ) -> Result<(), Fail> {
     let functions = cedar_functions(alloc)?;
