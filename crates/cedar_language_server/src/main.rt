@@ -19,6 +19,7 @@ use cedar_extensions::functions::{Checks, functions, overloaded_types};
 use cedar_types::base::ExtensionSchemas;
 use serving::Server;
 use sessions::Session;
+use std::io;
 use std::io::Write;
 use std::process::ExitCode;
 
@@ -48,20 +49,27 @@ fn main(rt: HostRuntime) -> ExitCode {
     let Ok(extensions) = ExtensionSchemas::new(functions, overloaded) else {
         return no_memory(&mut err);
     };
-    let mut server = Server {
-        rt: &rt,
-        session: Session::new(alloc, &extensions),
-        out: rt.stdout(),
-        log: rt.stderr(),
-    };
-    let mut input = rt.stdin();
-    match server.serve(&mut input) {
+    match serve(&rt, &extensions) {
         Ok(status) => ExitCode::from(status),
         Err(error) => {
             let _ = writeln!(err, "cedar-language-server: {error}");
             ExitCode::from(CANNOT_GO_ON)
         }
     }
+}
+
+/// Serves over standard input and output with these extension functions. The answer is the exit status.
+fn serve(rt: &HostRuntime, extensions: &ExtensionSchemas) -> io::Result<u8> {
+    let alloc = rt.alloc();
+    // on the heap, because the prover does not cover that a variable of so many parts is dropped
+    let mut session = Box::new(alloc, Session::new(alloc, extensions))?;
+    let mut server = Server {
+        rt,
+        out: rt.stdout(),
+        log: rt.stderr(),
+    };
+    let mut input = rt.stdin();
+    server.serve(&mut *session, &mut input)
 }
 
 fn no_memory<E: Write>(err: &mut E) -> ExitCode {

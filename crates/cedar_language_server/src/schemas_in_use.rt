@@ -29,7 +29,10 @@ impl Workspace<'_> {
             source,
             document,
         };
-        self.schemas.insert(key, schema)?;
+        match self.schemas.insert(key, schema)? {
+            Some(old) => drop(old),
+            None => {}
+        }
         Ok(())
     }
 
@@ -51,9 +54,10 @@ impl Workspace<'_> {
                     .replace(self.alloc, self.extensions, text.as_str())?;
                 schema.source = Source::File;
             }
-            None => {
-                self.schemas.remove(key.as_str());
-            }
+            None => match self.schemas.remove(key.as_str()) {
+                Some(old) => drop(old),
+                None => {}
+            },
         }
         Ok(())
     }

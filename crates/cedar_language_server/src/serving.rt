@@ -21,9 +21,8 @@ enum Step {
 
 /// The server: its session, and the streams to which it writes.
 #[derive(Drop)]
-pub struct Server<'a, R, O, E> {
-    pub rt: &'a R,
-    pub session: Session<'a>,
+pub struct Server<'r, R, O, E> {
+    pub rt: &'r R,
     pub out: O,
     /// The stream that says so if memory was refused in a notification.
     pub log: E,
@@ -31,7 +30,7 @@ pub struct Server<'a, R, O, E> {
 
 impl<R: Files + AllocGlobal + Clone + Drop, O: Write, E: Write> Server<'_, R, O, E> {
     /// Serves until `exit` or the end of the input. The answer is the exit status: 0 if `exit` comes after `shutdown`, else 1.
-    pub fn serve<I: Read>(&mut self, input: &mut I) -> io::Result<u8> {
+    pub fn serve<I: Read>(&mut self, session: &mut Session<'_>, input: &mut I) -> io::Result<u8> {
         let alloc = self.rt.alloc();
         let mut incoming = Incoming::new(alloc);
         let mut buffer = vec![in alloc; 0u8; READ_AHEAD]?;
@@ -42,19 +41,24 @@ impl<R: Files + AllocGlobal + Clone + Drop, O: Write, E: Write> Server<'_, R, O,
                 break;
             }
             incoming.add(piece)?;
-            if self.take_all(alloc, &mut incoming)? == Step::Exit {
-                return Ok(self.session.status());
+            if self.take_all(session, alloc, &mut incoming)? == Step::Exit {
+                return Ok(session.status());
             }
         }
-        Ok(self.session.status())
+        Ok(session.status())
     }
 
     /// Takes each frame that has come whole.
-    fn take_all(&mut self, alloc: Global, incoming: &mut Incoming) -> io::Result<Step> {
+    fn take_all(
+        &mut self,
+        session: &mut Session<'_>,
+        alloc: Global,
+        incoming: &mut Incoming,
+    ) -> io::Result<Step> {
         for _ in 0..u64::MAX {
             let step = match incoming.take(alloc)? {
                 Taken::Nothing => break,
-                Taken::Message(bytes) => self.take(alloc, bytes.as_slice())?,
+                Taken::Message(bytes) => self.take(session, alloc, bytes.as_slice())?,
                 Taken::Broken(why) => self.refuse(alloc, Refusal::BadRequest(why_broken(why)))?,
             };
             if step == Step::Exit {
@@ -65,7 +69,7 @@ impl<R: Files + AllocGlobal + Clone + Drop, O: Write, E: Write> Server<'_, R, O,
     }
 
     /// Takes a message, does as it asks, and sends a reply if it is a request.
-    fn take(&mut self, alloc: Global, bytes: &[u8]) -> io::Result<Step> {
+    fn take(&mut self, session: &mut Session<'_>, alloc: Global, bytes: &[u8]) -> io::Result<Step> {
         let Ok(text) = str::from_utf8(bytes) else {
             return self.refuse(alloc, Refusal::NotJson);
         };
@@ -79,17 +83,17 @@ impl<R: Files + AllocGlobal + Clone + Drop, O: Write, E: Write> Server<'_, R, O,
             if call.method == "exit" {
                 return Ok(Step::Exit);
             }
-            self.note(alloc, call)?;
+            self.note(session, alloc, call)?;
         }
-        if let Some(reply) = self.session.reply(message) {
+        if let Some(reply) = session.reply(message) {
             self.send_reply(alloc, &reply)?;
         }
         Ok(Step::Next)
     }
 
     /// Takes a notification, and sends the notifications that it leads to. If memory is refused, the log says so.
-    fn note(&mut self, alloc: Global, call: Call<'_>) -> io::Result<()> {
-        let notes = match self.session.note(self.rt, call) {
+    fn note(&mut self, session: &mut Session<'_>, alloc: Global, call: Call<'_>) -> io::Result<()> {
+        let notes = match session.note(self.rt, call) {
             Ok(notes) => notes,
             Err(error) => return self.log(error),
         };
