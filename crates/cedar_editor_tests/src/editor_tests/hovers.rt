@@ -1,6 +1,6 @@
 // Hovers on parts of policies, and the declarations of the parts in the schema. A mark `^` stands before the byte that is asked
 // about.
-use crate::editor_tests::judged::{OF_USERS, SCHEMA, VIEW, judge_by, text_at, unmarked};
+use crate::editor_tests::judged::{Check, OF_USERS, SCHEMA, VIEW, judge_by, text_at, unmarked};
 use cedar_editor::definitions::definitions_at;
 use cedar_editor::documents::{Judge, PolicyDocument};
 use cedar_editor::hovers::hover_at;
@@ -214,13 +214,28 @@ fn definitions(rt: HostRuntime) -> Result<(), Fail> {
     for (front, rest, is_typed, wanted) in &DEFINITIONS {
         let marked = format!(in alloc; "// é\n{front}{rest}")?;
         let (text, byte) = unmarked(alloc, marked.as_str())?;
-        let judge = if *is_typed { &judge } else { &reading };
-        let document = PolicyDocument::new(alloc, judge, text.as_str())?;
-        let placed = document.policy_at(byte).ok_or("a policy")?;
-        let at = byte.saturating_sub(placed.start);
-        let found = definitions_at(alloc, judge.settings(), own, placed.policy(), at)?;
-        let places = places_shown(alloc, own, found.as_slice())?;
+        // (the two judges lend at different lifetimes)
+        let places = if *is_typed {
+            definitions_shown(alloc, &judge, own, text.as_str(), byte)?
+        } else {
+            definitions_shown(alloc, &reading, own, text.as_str(), byte)?
+        };
         assert_eq!(rt; places.as_str(), *wanted, "{marked}");
     }
     Ok(())
+}
+
+/// The definitions at a byte of a text, each on a line.
+fn definitions_shown(
+    alloc: Global,
+    judge: &Judge<'_, Check>,
+    own: &SchemaText,
+    text: &str,
+    byte: usize,
+) -> Result<String, Fail> {
+    let document = PolicyDocument::new(alloc, judge, text)?;
+    let placed = document.policy_at(byte).ok_or("a policy")?;
+    let at = byte.saturating_sub(placed.start);
+    let found = definitions_at(alloc, judge.settings(), own, placed.policy(), at)?;
+    Ok(places_shown(alloc, own, found.as_slice())?)
 }
