@@ -19,7 +19,7 @@ enum Step {
     Exit,
 }
 
-/// The server: its session, and the streams to which it writes.
+/// The server: its runtime, by which it reads files, and the streams to which it writes.
 #[derive(Drop)]
 pub struct Server<'r, R, O, E> {
     pub rt: &'r R,
