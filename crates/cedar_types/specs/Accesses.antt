@@ -1,4 +1,4 @@
--- Expressions as the accesses that end them, and what those are taken of.
+-- Expressions as the accesses that end them, and the expression under these accesses.
 use Rattle.std.specs.Prelude.{Bool, List, [], ◌∷◌, ◌++◌, Option, None, Some, option_map, map}
 use Rattle.std.specs.Cmp.Lexicographic.{slice_cmp}
 use Rattle.std.specs.List.{fold}
@@ -25,14 +25,15 @@ at_most_one (Some x) = x ∷ []
 abbrev pub texts_at : Accesses → List Text
 texts_at a = at_most_one (option_map (λ x. text_of x.now) a.first) ++ map text_of a.rest.now
 
--- the shape of an access
+-- the shape of an access to attribute x of shape s
 abbrev pub got : Shape → Text → Shape
 got s x = get_attr tt s x
 
 abbrev pub shape_at : Accesses → Shape
 shape_at a = fold got (shape a.base.now) (texts_at a)
 
--- the attributes of the accesses that end an expression, the last first, and what they are taken of, which is no access
+-- an expression's spine: the attributes of the accesses that end it, the last first, and the
+-- expression under them, which is no access
 abbrev pub Spine : Type 0
 Spine = List Text × Expr (Unit {0})
 
@@ -49,14 +50,14 @@ spine e = spine_of e.annotation e.loc e.kind
 abbrev pub spine_at : Accesses → Spine
 spine_at a = fold push (spine a.base.now) (texts_at a)
 
--- an order: the attributes from the last to the first, and then what they are taken of
+-- an order: the attributes from the last to the first, and then the expressions under them
 unfoldable pub bottom_cmp : Expr (Unit {0}) → Expr (Unit {0}) → Ordering
 bottom_cmp = (expr_ord.ghosts unit).cmp
 
 abbrev pub spine_cmp : Spine → Spine → Ordering
 spine_cmp p q = ordering_then (slice_cmp text_cmp p.0 q.0) (bottom_cmp p.1 q.1)
 
--- ---- what has an attribute or a tag
+-- ---- the owner of an attribute or a tag
 
 abbrev pub shape_on : Owner → Shape
 shape_on (Owner.Lent a) = shape_at a
@@ -66,10 +67,10 @@ abbrev pub spine_on : Owner → Spine
 spine_on (Owner.Lent a) = spine_at a
 spine_on (Owner.Made e) = spine e
 
--- equal are those of one shape
+-- owners are equal if they have one shape
 abbrev pub owner_eq : Owner → Owner → Bool
 owner_eq a b = tree_eq (shape_on a) (shape_on b)
 
--- a total order of shapes; which one it is, no caller may ask
+-- a total order of shapes; no caller may ask which order it is
 unfoldable pub owner_cmp : Owner → Owner → Ordering
 owner_cmp a b = spine_cmp (spine_on a) (spine_on b)

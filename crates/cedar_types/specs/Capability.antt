@@ -1,4 +1,4 @@
--- What a capability, and a set of them, stands for.
+-- Capabilities, and sets of them, as plain data.
 use Rattle.std.specs.Prelude.{◌≡◌, Bool, false, ◌&&◌, ◌||◌, List}
 use Rattle.std.specs.List.{list_any}
 use Rattle.std.specs.declared.cmp.Ordering.{Ordering}
@@ -18,7 +18,8 @@ use Rattle.cedar_types.specs.Expressions.ShapeOnly.{shape_of}
 pub mod Entries
 pub mod Digest
 
--- that an expression has an attribute of that name, or a tag of the name that an expression gives
+-- a capability: an expression has an attribute of that name, or a tag of the name that an
+-- expression gives
 pub data Cap : Type 0 where
   attribute : Shape → Text → Cap
   tag : Shape → Shape → Cap
@@ -35,7 +36,7 @@ known_of s (Known.Tag x) = tag s (shape_of x)
 unfoldable pub cap_of : Capability → Cap
 cap_of c = known_of (shape_on c.on_expr) c.known
 
--- the expression that attributes are asked of
+-- the expression that typing asks for attributes
 unfoldable pub expr_in : DigestedBase → Expr (Unit {0})
 expr_in b = b.base.now
 
@@ -50,27 +51,27 @@ capability_cmp = ord_impl.ghosts.cmp
 abbrev pub among : List Capability → Cap → Bool
 among cs q = list_any (λ c. cap_eq q (cap_of c)) cs
 
--- the set, as the test of what it has
+-- the set, as the test of its members
 unfoldable pub caps : CapabilitySet → Cap → Bool
 caps s = among s.set
 
--- those that a builder has so far, likewise
+-- the capabilities that a builder has so far, as the test of its members
 unfoldable pub caps_so_far : CapabilitySetBuilder → Cap → Bool
 caps_so_far b = among b.set.keys
 
--- the set has nothing
+-- the set has no members
 abbrev pub HasNone : (Cap → Bool) → Type 0
 HasNone f = (q : Cap) → f q ≡ false
 
--- it has c alone
+-- the set has c alone
 abbrev pub HasJust : Cap → (Cap → Bool) → Type 0
 HasJust c f = (q : Cap) → f q ≡ cap_eq q c
 
--- h has what f has, and c
+-- h has the members of f, and c
 abbrev pub AddsJust : Cap → (Cap → Bool) → (Cap → Bool) → Type 0
 AddsJust c f h = (q : Cap) → h q ≡ (f q || cap_eq q c)
 
--- h has what either has, or what both have, or what f has
+-- h has the members of either set, or those of both, or those of f
 abbrev pub IsUnionOf : (Cap → Bool) → (Cap → Bool) → (Cap → Bool) → Type 0
 IsUnionOf f g h = (q : Cap) → h q ≡ (f q || g q)
 

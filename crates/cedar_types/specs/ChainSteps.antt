@@ -7,11 +7,11 @@ use Rattle.cedar_types.specs.Names.{Text, text_of}
 use Rattle.cedar_types.specs.Expressions.Tree.{Tree, get_attr, Shape}
 use Rattle.cedar_types.specs.Expressions.View.{Written, no_name, written}
 
--- `e.x`, which no policy has
+-- the expression `e.x`, which no policy has to hold
 abbrev pub made_up : Tree Written → Text → Tree Written
 made_up e x = get_attr (record { place = None; names = no_name }) e x
 
--- what a step is of, its attribute, and those of the later steps
+-- a step's expression, its attribute, and the attributes of the later steps
 unfoldable pub step_written : ChainStep → Tree Written
 step_written s = fold made_up (written s.on.base.now) (texts_at s.on)
 

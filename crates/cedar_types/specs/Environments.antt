@@ -11,7 +11,7 @@ pub mod LinkViews
 pub mod SlotLinks
 pub mod Representatives
 
--- what a request may be about, without slots
+-- the subject of a request, without slots
 pub record DeclaredEnv : Type 0 where
   pub principal : Path
   pub action : Uid
@@ -26,17 +26,17 @@ declared_env e = record {
   context = ty_of e.context.value;
 }
 
--- one for each resource type
+-- one environment for each resource type
 abbrev pub principal_environments : Uid → Ty → List Path → Path → List DeclaredEnv
 principal_environments u context resources p =
     map (λ r. record { principal = p; action = u; resource = r; context = context }) resources
 
--- one for each principal type and resource type; none of an external action
+-- one environment for each principal type and resource type; none of an external action
 abbrev pub action_environments : Uid → Option Application → List DeclaredEnv
 action_environments u None = []
 action_environments u (Some a) =
     flat_map (principal_environments u a.context a.resources) a.principals
 
--- one for each defined action, principal type and resource type that it applies to
+-- one environment for each defined action, principal type and resource type that it applies to
 abbrev pub environments_of : List DeclaredAction → List DeclaredEnv
 environments_of acts = flat_map (λ a. action_environments a.name a.applies_to) acts

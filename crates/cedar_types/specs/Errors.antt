@@ -10,22 +10,23 @@ use Rattle.cedar_types.specs.declared.base.errors.validation_warnings.Validation
 use Rattle.cedar_types.specs.Names.{Text, Path, Uid, text_of, path_of, type_of, uid_of}
 use Rattle.cedar_types.specs.Types.{Ty, ty_of, lub_of}
 
--- what is wrong
+-- the fault of an error
 pub data Fault : Type 0 where
-  -- a type or an action that the schema does not have, and an id that its enumerated type does not have
+  -- a type or an action that the schema does not have, and an id that its enumerated type does not
+  -- have
   unrecognized_entity_type : Path → Fault
   unrecognized_action_id : Uid → Fault
   invalid_enum_entity : Uid → Fault
   -- the expected types, ascending, and the actual one
   unexpected_type : List Ty → Ty → Fault
-  -- the types that have no bound, ascending, and where one was wanted
+  -- the types that have no bound, ascending, and the context that needs a bound
   incompatible_types : List Ty → LubContext → Fault
-  -- the type of the base, the attribute, and whether it may be there
+  -- the type of the base, the attribute, and whether it may be present
   unsafe_attribute_access : Ty → Text → Bool → Fault
   unsafe_optional_attribute_access : Ty → Text → Fault
-  -- the types of the entity, ascending, or none where it may be of any
+  -- the types of the entity, ascending, or none if it may be of any type
   unsafe_tag_access : Option (List Path) → Fault
-  -- the type of the entity, or none where it may be of several
+  -- the type of the entity, or none if it may be of several types
   no_tags_allowed : Option Path → Fault
   undefined_function : Path → Fault
   -- the expected number, and the actual one
@@ -38,29 +39,29 @@ pub data Fault : Type 0 where
   maximum_level_exceeded : ℕ → ℕ → Fault
   literal_dereference_target : Fault
 
--- an error: where it stands, in which policy, and what is wrong
+-- an error: its place, its policy, and its fault
 pub record Finding : Type 0 where
   pub place : Option Loc
   pub policy : Text
   pub fault : Fault
 
--- what is likely a slip
+-- the likely slip of a warning
 pub data Slip : Type 0 where
   impossible_policy : Slip
   -- whether `in` in place of `==` might help for the principal, and for the resource
   invalid_action_application : Bool → Bool → Slip
 
--- a warning: where it stands, in which policy, and what is likely a slip
+-- a warning: its place, its policy, and its likely slip
 pub record Warning : Type 0 where
   pub place : Option Loc
   pub policy : Text
   pub slip : Slip
 
--- what is wrong, with its place and policy
+-- a fault with its place and policy
 abbrev pub found : Option Loc → PolicyID → Fault → Finding
 found l p f = record { place = l; policy = text_of p.text; fault = f }
 
--- what is likely a slip, with its place and policy
+-- a likely slip with its place and policy
 abbrev pub noted : Option Loc → PolicyID → Slip → Warning
 noted l p s = record { place = l; policy = text_of p.text; slip = s }
 

@@ -12,7 +12,7 @@ pub record ExtensionTable : Type 0 where
   pub overloaded_types : List Path
 
 module _ {C : Type 0} where
-  -- the functions of a table, where `meaning` says what each check of arguments means
+  -- the functions of a table, where `meaning` gives the meaning of each check of arguments
   unfoldable pub functions_of : (C → Refusals) → ExtensionSchemas C → List ExtensionFunction
   functions_of meaning s = map (function_of meaning) s.functions.items
 

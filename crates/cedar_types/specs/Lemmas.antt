@@ -1,4 +1,4 @@
--- Lemmas of the definitions: what need not be read to believe the rest.
+-- Lemmas of the definitions, which a reader can skip and still believe the rest.
 pub mod Layers
 pub mod TreeSame
 pub mod Same

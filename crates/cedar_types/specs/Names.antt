@@ -60,7 +60,7 @@ placed_uid u = record { uid = uid_of u; place = u.loc; type_place = u.entity_typ
 abbrev pub is_action_path : Path → Bool
 is_action_path p = pointwise nat_eq p.basename (codes "Action")
 
--- equality, as a test
+-- equality of texts, names and ids, as a test
 abbrev pub text_eq : Text → Text → Bool
 text_eq = pointwise nat_eq
 
@@ -73,14 +73,14 @@ path_eq p q = texts_eq p.path q.path && text_eq p.basename q.basename
 abbrev pub uid_eq : Uid → Uid → Bool
 uid_eq u v = path_eq u.entity_type v.entity_type && text_eq u.eid v.eid
 
--- order: texts byte by byte
+-- the order of texts: byte by byte
 abbrev pub text_cmp : Text → Text → Ordering
 text_cmp = slice_cmp nat_cmp
 
--- the parts of the path first, then the last part
+-- the order of names: by the parts of the path first, then by the last part
 abbrev pub path_cmp : Path → Path → Ordering
 path_cmp p q = ordering_then (slice_cmp text_cmp p.path q.path) (text_cmp p.basename q.basename)
 
--- the type first, then the eid
+-- the order of ids: by the type first, then by the eid
 abbrev pub uid_cmp : Uid → Uid → Ordering
 uid_cmp u v = ordering_then (path_cmp u.entity_type v.entity_type) (text_cmp u.eid v.eid)

@@ -1,4 +1,4 @@
--- What a schema declares, and the first fault of one.
+-- The declarations of a schema, and its first fault.
 use Rattle.std.specs.Prelude.{Bool, true, false, ◌&&◌, ◌||◌, not, List, [], ◌∷◌, Option, Some, None, if◌then◌else◌, nat_eq, nat_lt, length}
 use Rattle.std.specs.List.{list_any, list_all, find}
 use Rattle.std.specs.Option.{is_some}
@@ -19,28 +19,28 @@ pub mod References
 
 -- ---- declarations
 
--- what is known of the entities of a type
+-- the knowledge of the entities of a type
 pub data TypeKind : Type 0 where
   -- their attributes, and the type of their tags if they have any
   StandardKind : Attrs → Option Ty → TypeKind
-  -- which ids they have
+  -- the ids of its entities
   EnumKind : List Text → TypeKind
-  -- nothing
+  -- nothing is known
   ExternalKind : TypeKind
 
--- an entity type; entities of its descendants may be in its entities
+-- an entity type; its entities may contain entities of its descendants
 pub record DeclaredType : Type 0 where
   pub name : Path
   pub descendants : List Path
   pub kind : TypeKind
 
--- what an action applies to: its principals' and resources' types, and its context's
+-- the application of an action: its principals' and resources' types, and its context's type
 pub record Application : Type 0 where
   pub principals : List Path
   pub resources : List Path
   pub context : Ty
 
--- an action; of an external one nothing else is known
+-- an action; nothing else is known of an external action
 pub record DeclaredAction : Type 0 where
   pub name : Uid
   pub descendants : List Uid
@@ -60,7 +60,7 @@ declares_type ts p = list_any (λ t. path_eq p t.name) ts
 abbrev pub declares_action : List DeclaredAction → Uid → Bool
 declares_action acts u = list_any (λ a. uid_eq u a.name) acts
 
--- a type is known where it is declared, or has the name of an action's type
+-- a type is known if it is declared, or has the name of an action's type
 abbrev pub knows_type : List DeclaredType → Path → Bool
 knows_type ts p = is_action_path p || declares_type ts p
 
@@ -88,9 +88,9 @@ descendants_of ts p = type_descendants (type_named ts p)
 abbrev pub descendants_of_action : List DeclaredAction → Uid → List Uid
 descendants_of_action acts u = action_descendants (action_named acts u)
 
--- ---- names that are declared twice, or as they may not be
+-- ---- names that are declared twice, or that may not be declared
 
--- two elements are the same
+-- two elements are equal by the test `same`
 abbrev pub has_repeat : {X : Type 0} → (X → X → Bool) → List X → Bool
 has_repeat same [] = false
 has_repeat same (x ∷ xs) = list_any (same x) xs || has_repeat same xs
@@ -120,7 +120,7 @@ is_empty_enum ExternalKind = false
 abbrev pub has_empty_enum : List DeclaredType → Bool
 has_empty_enum ts = list_any (λ t. is_empty_enum t.kind) ts
 
--- ---- the types that are named
+-- ---- the types that declarations name
 
 abbrev mutual
   -- each entity type that a type names, at any depth, passes
@@ -140,7 +140,7 @@ abbrev mutual
   attr_names_pass known no_attrs = true
   attr_names_pass known (attr k t r xs) = names_pass known t && attr_names_pass known xs
 
--- if there are tags, their type passes
+-- the type of the tags passes, if there are tags
 abbrev pub tags_pass : (Ty → Bool) → Option Ty → Bool
 tags_pass p None = true
 tags_pass p (Some t) = p t
@@ -163,7 +163,7 @@ application_is_known ts (Some a) =
     && list_all (knows_type ts) a.resources
     && names_pass (knows_type ts) a.context
 
--- each type that is named is known
+-- each named type is known
 abbrev pub types_are_known : List DeclaredType → List DeclaredAction → Bool
 types_are_known ts acts =
     list_all (type_is_known ts) ts && list_all (λ a. application_is_known ts a.applies_to) acts
@@ -173,7 +173,7 @@ abbrev pub action_descendants_declared : List DeclaredAction → Bool
 action_descendants_declared acts =
     list_all (λ a. list_all (declares_action acts) a.descendants) acts
 
--- ---- types that say too little
+-- ---- types that are too vague
 
 abbrev pub is_vague_bool : BoolType → Bool
 is_vague_bool AnyBool = false
@@ -181,7 +181,7 @@ is_vague_bool True = true
 is_vague_bool False = true
 
 abbrev mutual
-  -- at some depth stands Never, a single truth value, a set of anything, an open record, any entity, or a choice of entity types
+  -- the type has Never, True, False, a set of anything, an open record, any entity or several types
   pub is_vague : Ty → Bool
   is_vague TNever = true
   is_vague (TBool k) = is_vague_bool k
@@ -208,7 +208,7 @@ kind_is_definite (StandardKind attrs tags) =
 kind_is_definite (EnumKind ids) = true
 kind_is_definite ExternalKind = true
 
--- a context is a record, and says enough
+-- a context is a record, and is not vague
 abbrev pub application_is_definite : Option Application → Bool
 application_is_definite None = true
 application_is_definite (Some a) = is_record a.context && not (is_vague a.context)
@@ -227,7 +227,7 @@ is_among ps p = list_any (path_eq p) ps
 abbrev pub uid_is_among : List Uid → Uid → Bool
 uid_is_among us u = list_any (uid_eq u) us
 
--- what descends from a descendant is a descendant
+-- each descendant of a descendant is a descendant
 abbrev pub types_are_closed : List DeclaredType → Bool
 types_are_closed ts =
     list_all
@@ -243,7 +243,7 @@ actions_are_closed acts =
 
 -- ---- the first fault, in this order
 
--- of names that are declared once each
+-- the first fault of names that are declared once each
 abbrev pub later_fault : Schema → Option SchemaError
 later_fault s =
     if declares_action_type s.types then Some ActionTypeDeclared
@@ -265,7 +265,7 @@ first_fault s =
 abbrev pub has_fault : Schema → Bool
 has_fault s = is_some (first_fault s)
 
--- ---- what may be in what
+-- ---- which entities may be in which
 
 abbrev pub is_external_kind : TypeKind → Bool
 is_external_kind (StandardKind attrs tags) = false
@@ -276,11 +276,11 @@ abbrev pub is_external : Option DeclaredType → Bool
 is_external None = false
 is_external (Some t) = is_external_kind t.kind
 
--- nothing is known of a type that is not known itself, or is external
+-- nothing is known of a type that is unknown itself, or is external
 abbrev pub is_open_type : List DeclaredType → Path → Bool
 is_open_type ts p = not (knows_type ts p) || is_external (type_named ts p)
 
--- some declared action of the one type is a descendant of one of the other
+-- some declared action of type l is a descendant of one of type r
 abbrev pub action_is_below : List DeclaredAction → Path → Path → Bool
 action_is_below acts l r =
     list_any
@@ -288,8 +288,8 @@ action_is_below acts l r =
     && list_any (λ b. path_eq l b.name.entity_type && uid_is_among a.descendants b.name) acts)
     acts
 
--- whether an entity of the type l may be in one of the type r: they are one type, or of one of them nothing is known,
--- or l is a descendant of r, or an action of the type l is one of an action of the type r
+-- whether an entity of type l may be in one of type r: they are one type, or one of them is open,
+-- or l is a descendant of r, or an action of type l is a descendant of one of type r
 abbrev pub may_be_in : Schema → Path → Path → Bool
 may_be_in s l r =
     path_eq l r
@@ -297,6 +297,6 @@ may_be_in s l r =
     || is_among (descendants_of s.types r) l
     || action_is_below s.actions l r
 
--- whether this holds of some of the types
+-- whether an entity of some type in ls may be in one of some type in rs
 abbrev pub any_may_be_in : Schema → List Path → List Path → Bool
 any_may_be_in s ls rs = list_any (λ l. list_any (may_be_in s l) rs) ls

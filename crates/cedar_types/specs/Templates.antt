@@ -1,6 +1,8 @@
--- Templates as plain data, and the condition of one.
+-- Templates as plain data, and their conditions.
 use Rattle.std.specs.Prelude.{true, List, Option, Some, None, map, option_map}
+use Rattle.cedar_types.specs.declared.base.expressions.Expr.{Expr}
 use Rattle.cedar_types.specs.declared.base.location.Loc.{Loc}
+use Rattle.cedar_types.specs.declared.base.names.policy_ids.PolicyID.{PolicyID}
 use Rattle.cedar_types.specs.declared.base.names.slots.SlotId.{SlotId}
 use Rattle.cedar_types.specs.declared.base.expressions.operators.Var.{Var}
 use Rattle.cedar_types.specs.declared.base.expressions.operators.BinaryOp.TheVariants as BinaryOp
@@ -8,6 +10,8 @@ use Rattle.cedar_types.specs.declared.base.templates.constraints.EntityReference
 use Rattle.cedar_types.specs.declared.base.templates.constraints.PrincipalOrResourceConstraint.{PrincipalOrResourceConstraint}
 use Rattle.cedar_types.specs.declared.base.templates.constraints.PrincipalOrResourceConstraint.TheVariants as Constraint
 use Rattle.cedar_types.specs.declared.base.templates.constraints.ActionConstraint.{ActionConstraint}
+use Rattle.cedar_types.specs.declared.base.templates.constraints.PrincipalConstraint.{PrincipalConstraint}
+use Rattle.cedar_types.specs.declared.base.templates.constraints.ResourceConstraint.{ResourceConstraint}
 use Rattle.cedar_types.specs.declared.base.templates.Template.{Template}
 use Rattle.cedar_types.specs.Names.{Text, PlacedType, PlacedUid, text_of, placed_type, placed_uid}
 use Rattle.cedar_types.specs.Expressions.Tree.{bool, entity, Tree, lit, var, slot, and, binary, is_type, set_of}
@@ -16,7 +20,7 @@ pub mod Mentions
 pub mod MentionViews
 pub mod Findings
 
--- what a scope constraint names: an entity, or the slot of its variable
+-- the reference of a scope constraint: an entity, or the slot of its variable
 pub data Reference : Type 0 where
   to_entity : PlacedUid → Reference
   to_slot : Reference
@@ -69,7 +73,19 @@ template_of t = record {
   rest = option_map written t.non_scope_constraints;
 }
 
--- a node made for the template stands at the template's place; names in it keep their own
+-- the template of these parts
+abbrev pub template_with : PolicyID → Option Loc → PrincipalConstraint → ActionConstraint
+    → ResourceConstraint → Option (Expr (Unit {0})) → PlainTemplate
+template_with id place principal action resource rest = record {
+  id = text_of id.text;
+  place = place;
+  principal = scope_of principal.constraint;
+  action = action_scope_of action;
+  resource = scope_of resource.constraint;
+  rest = option_map written rest;
+}
+
+-- a node made for the template stands at the template's place; names in it keep their own places
 abbrev pub made : Option Loc → Written
 made l = record { place = l; names = no_name }
 
@@ -95,7 +111,8 @@ within_at l v x = binary (made l) BinaryOp.In (var (made l) v) x
 abbrev pub equal_at : Option Loc → Var → Tree Written → Tree Written
 equal_at l v x = binary (made l) BinaryOp.Eq (var (made l) v) x
 
--- the test of the principal or of the resource: `true`, `v == x`, `v in x`, `v is T`, `(v is T) && (v in x)`
+-- the test of the principal or of the resource: `true`, `v == x`, `v in x`, `v is T`, `(v is T) &&
+-- (v in x)`
 abbrev pub scope_at : Option Loc → Var → SlotId → Scope → Tree Written
 scope_at l v s any = true_at l
 scope_at l v s (equal r) = equal_at l v (reference_at l s r)
@@ -124,6 +141,6 @@ abbrev pub with_rest : Option Loc → Tree Written → Option (Tree Written) →
 with_rest l scope None = scope
 with_rest l scope (Some rest) = and (made l) scope rest
 
--- the condition: the scope, and then the rest where there is one
+-- the condition: the scope, and then the rest if there is one
 abbrev pub condition_of : PlainTemplate → Tree Written
 condition_of t = with_rest t.place (scope_condition t) t.rest

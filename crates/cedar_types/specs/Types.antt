@@ -30,7 +30,7 @@ mutual
     TString : Ty
     TSet : Ty → Ty
     TAnySet : Ty
-    -- the attributes, and whether others may be there
+    -- the attributes, and whether the record may have others
     TRecord : Attrs → Bool → Ty
     -- some entity types
     TEntity : List Path → Ty
@@ -51,7 +51,7 @@ is_open_tag ClosedAttributes = false
 abbrev pub types_of : BTreeSet EntityType → List Path
 types_of s = map type_of s.keys
 
--- the same of a set that is never empty
+-- the names of a set that is never empty
 unfoldable pub lub_of : EntityLUB → List Path
 lub_of s = types_of s.lub_elements.value
 
@@ -59,12 +59,12 @@ abbrev pub kind_of : EntityKind → Ty
 kind_of (kind.Entity s) = TEntity (lub_of s)
 kind_of kind.AnyEntity = TAnyEntity
 
--- some entries, by name
+-- attributes from entries by name
 abbrev pub attrs_of : List (RcStr Global × (Ty × Bool)) → Attrs
 attrs_of [] = no_attrs
 attrs_of (e ∷ es) = attr (text_of e.0) e.1.0 e.1.1 (attrs_of es)
 
--- one layer of a type, over what its parts are
+-- one layer of a type, over the readings of its parts
 abbrev pub ty_step : CedarType-F Ty (Ty × Bool) Attrs → Ty
 ty_step layer.Never = TNever
 ty_step (layer.Bool k) = TBool k
@@ -82,7 +82,7 @@ attribute_step a = (a.attr_type, a.is_required)
 abbrev pub attributes_step : Attributes-F Ty (Ty × Bool) Attrs → Attrs
 attributes_step a = attrs_of a.attrs.value.entries
 
--- a type
+-- a type as plain data
 abbrev pub ty_of : CedarType → Ty
 ty_of = fold-CedarType Ty (Ty × Bool) Attrs ty_step attribute_step attributes_step
 
@@ -99,12 +99,12 @@ abbrev pub entries_of : List (RcStr Global × AttributeType) → Attrs
 entries_of [] = no_attrs
 entries_of (e ∷ es) = attr (text_of e.0) (ty_of e.1.attr_type) e.1.is_required (entries_of es)
 
--- a set of entity types that has members
+-- a set of entity types, if it has members
 abbrev pub lub_from : List Path → Option (List Path)
 lub_from [] = None
 lub_from (p ∷ ps) = Some (p ∷ ps)
 
--- the member that has no other beside it
+-- the only member of a list, if there is exactly one
 abbrev pub sole : List Path → Option Path
 sole [] = None
 sole (p ∷ []) = Some p
@@ -115,7 +115,8 @@ abbrev pub attr_names : Attrs → List Text
 attr_names no_attrs = []
 attr_names (attr k t r xs) = k ∷ attr_names xs
 
--- names of attributes and of entity types ascend, each once, and an entity set has a member, at every depth
+-- names of attributes and of entity types ascend, each once, and an entity set has a member, at
+-- every depth
 abbrev mutual
   pub is_well_formed : Ty → Bool
   is_well_formed TNever = true

@@ -1,4 +1,4 @@
--- Values, and which values have a type.
+-- Values, and the values of a type.
 use Rattle.std.specs.Prelude.{◌≡◌, Bool, true, false, not, List, [], ◌∷◌, Option, Some, None, ℤ, if◌then◌else◌, IsTrue}
 use Rattle.std.specs.List.{list_any}
 use Rattle.cedar_types.specs.Names.{Text, Path, Uid, text_eq}
@@ -40,7 +40,7 @@ abbrev pub entry_keys : Entries → List Text
 entry_keys no_entries = []
 entry_keys (more_entries k v es) = k ∷ entry_keys es
 
--- ---- by kinds: what is asked of a value of a kind; no other value passes
+-- ---- tests by kind: a demand on a value of a kind; no other value passes
 
 abbrev pub OnBool : (Bool → Type 0) → Value → Type 0
 OnBool P (VBool b) = P b
@@ -105,25 +105,25 @@ OnExtension P (VSet vs) = ⊥
 OnExtension P (VRecord es) = ⊥
 OnExtension P (VExtension n t) = P n
 
--- each member
+-- each member passes
 abbrev pub AllValues : (Value → Type 0) → Values → Type 0
 AllValues P no_values = Unit {0}
 AllValues P (more_values v vs) = P v × AllValues P vs
 
--- the value of each entry
+-- the value of each entry passes
 abbrev pub AllEntries : (Value → Type 0) → Entries → Type 0
 AllEntries P no_entries = Unit {0}
 AllEntries P (more_entries k v es) = P v × AllEntries P es
 
 -- ---- the values of a type
 
--- Bool: each truth value; True and False: that one
+-- the truth values of a kind: each for Bool; for True and False the one named
 abbrev pub HasKind : BoolType → Bool → Type 0
 HasKind AnyBool b = Unit {0}
 HasKind True b = IsTrue b
 HasKind False b = IsTrue (not b)
 
--- an attribute that is there has its type, and a required one is there
+-- an attribute that is present has its type, and a required one is present
 abbrev pub HasAttr : Bool → (Value → Type 0) → Option Value → Type 0
 HasAttr required P None = IsTrue (not required)
 HasAttr required P (Some v) = P v
@@ -139,8 +139,9 @@ IsClosedBy true ks es = Unit {0}
 IsClosedBy false ks es = KeysAmong ks es
 
 abbrev mutual
-  -- v has the type: no value has Never; a set of a type has members of that type; a record has each required key,
-  -- values of their types at the declared keys, and, if it is closed, no other key; an entity is of one of the types
+  -- v has the type: no value has Never; a set of a type has members of that type; a record has each
+  -- required key, values of their types at the declared keys, and, if it is closed, no other key;
+  -- an entity is of one of the types
   pub HasType : Ty → Value → Type 0
   HasType TNever = λ v. ⊥
   HasType (TBool k) = OnBool (HasKind k)

@@ -1,4 +1,5 @@
--- The digest of a capability's shape: by std's folding hasher, from the inside of an expression out.
+-- The digest of a capability's shape: std's folding hasher computes it from the inside of an
+-- expression out.
 use Rattle.std.specs.Prelude.{ℕ, List, ◌++◌}
 use Rattle.std.specs.List.{fold}
 use Rattle.std.specs.Hash as fed
@@ -15,11 +16,11 @@ use Rattle.cedar_types.specs.Expressions.Tree.{Lit, bool, long, string, entity, 
 use Rattle.cedar_types.specs.Expressions.Tree.{binary, call, get_attr, has_attr, ext_has_attr, like, is_type, set_of, record_of, Shape}
 use Rattle.cedar_types.specs.Expressions.Tree.{Trees, no_trees, tree, Fields, no_fields, field}
 
--- a digest joined with what a value feeds a hasher
+-- a digest joined with the input that a value feeds a hasher
 unfoldable pub joined : ℕ → fed.HashWrites → ℕ
 joined d ws = folding.finish (fold folding.write (fold folding.write folding.initial (fed.u64 d)) ws)
 
--- with a text, with some texts, and with another digest
+-- a digest joined with a text, with some texts, and with another digest
 abbrev pub with_text : ℕ → Text → ℕ
 with_text d x = joined d (fed.str x)
 
@@ -29,7 +30,7 @@ with_texts d xs = joined d (fed.slice fed.str xs)
 abbrev pub with_digest : ℕ → ℕ → ℕ
 with_digest d e = joined d (fed.u64 e)
 
--- with a name, and with the id of an entity
+-- a digest joined with a name, and with the id of an entity
 abbrev pub path_writes : Path → fed.HashWrites
 path_writes p = fed.slice fed.str p.path ++ fed.str p.basename
 
@@ -51,7 +52,8 @@ lit_digest (long z) = joined 6 (fed.i64 z)
 lit_digest (string x) = with_text 7 x
 lit_digest (entity u) = with_uid 8 u
 
--- all of a form counts: its operator, its names, and the digests of its parts; most forms begin with a number of their own
+-- the digest covers all of a form: its operator, its names, and the digests of its parts; most
+-- forms begin with a number of their own
 abbrev mutual
   pub shape_digest : Shape → ℕ
   shape_digest (lit d x) = lit_digest x
@@ -76,7 +78,7 @@ abbrev mutual
   shape_digest (set_of d ts) = trees_digest 20 ts
   shape_digest (record_of d fs) = fields_digest 21 fs
 
-  -- a digest, and then trees or fields, one after the other
+  -- a digest joined with trees or fields, one after the other
   pub trees_digest : ℕ → Trees (Unit {0}) → ℕ
   trees_digest n no_trees = n
   trees_digest n (tree t ts) = trees_digest (with_digest n (shape_digest t)) ts

@@ -1,4 +1,4 @@
--- What the iterator over the environments of a template holds, as plain data.
+-- The state of the iterator over the environments of a template, as plain data.
 use Rattle.std.specs.Prelude.{◌≡◌, ℕ, ◌≤◌, Bool, List, [], ◌++◌, map, drop, cond, Option, Some, None, option_map}
 use Rattle.std.specs.List.{flat_map}
 use Rattle.std.specs.Borrow.{Bor}
@@ -15,11 +15,11 @@ use Rattle.cedar_types.specs.Environments.RequestEnvs.{Env, envs_left}
 use Rattle.cedar_types.specs.Schemas.Contents.{schema_of}
 use Rattle.cedar_types.specs.Environments.SlotLinks.{links_held, most_links}
 
--- a slot's link, by the type's name
+-- a slot's link, by the name of the type
 abbrev pub link_of : Option (Bor EntityType) → Option Path
 link_of = option_map (λ t. type_of t.now)
 
--- after the links that were there, one to each of these types
+-- the links that were there, followed by one to each of these types
 abbrev pub AddsLinks : List (Option (Bor EntityType)) → List Path → List (Option (Bor EntityType)) → Type 0
 AddsLinks before ps after = map link_of after ≡ map link_of before ++ map (λ p. Some p) ps
 
@@ -31,7 +31,7 @@ place_env p = record {
   context = ty_of p.context.now;
 }
 
--- the pairs from those of the principal's link at hand on, without those of it that are gone
+-- the pairs from those of the principal's link at hand on, without its pairs that are gone
 abbrev pub pairs_from : Place → List (Option (Bor EntityType)) → List (Option (Bor EntityType))
     → ℕ → ℕ → List Env
 pairs_from p ps rs i j =
@@ -45,7 +45,7 @@ abbrev pub held_left : Option LinkPairs → List Env
 held_left None = []
 held_left (Some l) = pairs_left l
 
--- the environments that are still to come, where the walk has not ended
+-- the environments that are still to come, if the walk has not ended
 abbrev pub linked_to_come : LinkedRequestEnvs → List Env
 linked_to_come s =
     held_left s.links
@@ -62,6 +62,6 @@ linked_left s = cond s.ended [] (linked_to_come s)
 unfoldable pub linked_is_over : LinkedRequestEnvs → Bool
 linked_is_over s = s.ended
 
--- it holds the slot links of one environment at a time
+-- the iterator holds the slot links of one environment at a time
 abbrev pub HoldsFewLinks : LinkedRequestEnvs → Type 0
 HoldsFewLinks s = links_held s.links ≤ most_links s.schema.now

@@ -1,4 +1,5 @@
--- The environments that a template is checked in: those of the schema, its slots linked in all ways.
+-- The environments in which a template is checked: those of the schema, its slots linked in all
+-- ways.
 use Rattle.std.specs.Prelude.{Bool, true, false, List, [], ◌∷◌, ◌++◌, map, filter, Option, Some, None}
 use Rattle.std.specs.List.{flat_map}
 use Rattle.cedar_types.specs.declared.base.names.slots.SlotId.{SlotId}
@@ -18,18 +19,20 @@ type_names ts = map (λ t. t.name) ts
 abbrev pub types_above : List DeclaredType → Path → List Path
 types_above ts p = type_names (filter (λ t. is_among t.descendants p) ts)
 
--- the types of what a slot may be bound to, by the constraint on its variable and the variable's own type
+-- the types that a slot may be bound to, by the constraint on its variable and the variable's own
+-- type
 abbrev pub slot_types : List DeclaredType → Scope → Path → List Path
--- the variable has to equal it: its own type
+-- the variable must equal the slot: its own type
 slot_types ts (equal r) own = own ∷ []
--- the variable has to be in it: each type above its own, and its own, which comes twice if it is above itself
+-- the variable must be in the slot: each type above its own, and its own, twice if it is above
+-- itself
 slot_types ts (within r) own = types_above ts own ++ (own ∷ [])
 slot_types ts (typed_within t r) own = types_above ts own ++ (own ∷ [])
--- the constraint says nothing of it: each declared type
+-- the constraint does not name the slot: each declared type
 slot_types ts any own = type_names ts
 slot_types ts (typed t) own = type_names ts
 
--- a slot that occurs is linked to each of its types, one that does not to none
+-- a slot that occurs is linked to each of its types; a slot that does not occur is linked to none
 abbrev pub slot_links : Bool → List DeclaredType → Scope → Path → List (Option Path)
 slot_links true ts c own = map (λ p. Some p) (slot_types ts c own)
 slot_links false ts c own = None ∷ []
@@ -54,7 +57,7 @@ names_slot (typed_within t r) = is_slot r
 abbrev pub has_slot : SlotId → PlainTemplate → Bool
 has_slot slot t = mentions_slot slot (condition_of t)
 
--- an environment of the schema, linked; `p` and `r` say whether the slots occur
+-- an environment of the schema, linked; `p` and `r` tell whether the slots occur
 abbrev pub linked_by : Bool → Bool → Schema → PlainTemplate → Env → List Env
 linked_by p r s t (Declared d _ _) =
     in_all_ways d
@@ -65,6 +68,6 @@ linked_by p r s t Undeclared = Undeclared ∷ []
 abbrev pub linked_envs : Schema → PlainTemplate → Env → List Env
 linked_envs s t = linked_by (has_slot SlotId.Principal t) (has_slot SlotId.Resource t) s t
 
--- the environments that the template is checked in, each as often as it can be had
+-- the environments in which the template is checked, each as often as linking gives it
 abbrev pub checked_envs : Schema → ValidationMode → PlainTemplate → List Env
 checked_envs s m t = flat_map (linked_envs s t) (unlinked_envs s m)

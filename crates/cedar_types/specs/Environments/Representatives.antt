@@ -1,4 +1,4 @@
--- Which actions the scope of a template admits, and environments of actions that it does not admit.
+-- Actions that the scope of a template admits, and environments of actions that it does not admit.
 use Rattle.std.specs.Prelude.{◌≡◌, Bool, true, false, ◌||◌, List, map}
 use Rattle.std.specs.List.{list_any}
 use Rattle.cedar_types.specs.Names.{Uid, uid_eq}
@@ -6,7 +6,7 @@ use Rattle.cedar_types.specs.Schemas.{DeclaredAction, Schema, uid_is_among, desc
 use Rattle.cedar_types.specs.Environments.RequestEnvs.{Env, Declared, Undeclared}
 use Rattle.cedar_types.specs.Templates.{ActionScope, any_action, equal_action, within_actions, PlainTemplate}
 
--- the scope admits an action: each, the one that is named, or one of those that are named or below them
+-- the scope admits an action: each action, the named one, or one of the named ones or below them
 abbrev pub admits : List DeclaredAction → ActionScope → Uid → Bool
 admits acts any_action u = true
 admits acts (equal_action v) u = uid_eq u v.uid
@@ -20,8 +20,9 @@ IsLeftOut s t (Declared d p r) =
     (declares_action s.actions d.action ≡ true) × (admits s.actions t.action d.action ≡ false)
 IsLeftOut s t Undeclared = ⊥
 
--- two environments that the scope's tests of the principal and of the action do not tell apart where it admits neither
--- action: the principal has one type, its slot one link, and the actions are of one type
+-- two environments that the scope's tests of the principal and of the action do not tell apart if
+-- it admits neither action: the principal has one type, its slot one link, and the actions are of
+-- one type
 abbrev pub SamePrincipal : Env → Env → Type 0
 SamePrincipal (Declared d p r) (Declared d' p' r') =
     (d.principal ≡ d'.principal) × (p ≡ p') × (d.action.entity_type ≡ d'.action.entity_type)

@@ -1,4 +1,5 @@
--- The environments that typing works in: what a request may be about, and the types of what its slots are bound to.
+-- The environments that typing works in: the subject of a request, and the types that its slots are
+-- bound to.
 use Rattle.std.specs.Prelude.{◌≡◌, Bool, true, false, cond, List, [], ◌∷◌, ◌++◌, map, Option, Some, None, option_map, if◌then◌else◌}
 use Rattle.std.specs.Borrow.{Bor}
 use Rattle.cedar_types.specs.Names.{Path, PlacedType, PlacedUid, type_of, uid_of, placed_type, placed_uid}
@@ -17,8 +18,8 @@ use Rattle.cedar_types.specs.declared.types.request_env.RequestEnv.{RequestEnv}
 use Rattle.cedar_types.specs.declared.types.request_env.RequestEnv.TheVariants.{DeclaredAction, UndeclaredAction}
 use Rattle.cedar_types.specs.declared.types.unlinked_envs.UnlinkedRequestEnvs.{UnlinkedRequestEnvs}
 
--- an environment: a declared one with the types of its principal slot and of its resource slot, or that of all undeclared
--- actions
+-- an environment: a declared one with the types of its principal slot and of its resource slot, or
+-- the one of all undeclared actions
 pub data Env : Type 0 where
   Declared : DeclaredEnv → Option Path → Option Path → Env
   Undeclared : Env
@@ -35,7 +36,7 @@ env_of (DeclaredAction p a r c ps rs) =
     (option_map type_of ps) (option_map type_of rs)
 env_of UndeclaredAction = Undeclared
 
--- ---- its parts, none of an undeclared action
+-- ---- the parts of an environment; an undeclared action has none
 
 abbrev pub principal_in : RequestEnv → Option (Bor EntityType)
 principal_in (DeclaredAction p a r c ps rs) = Some p
@@ -57,7 +58,7 @@ abbrev pub resource_slot_in : RequestEnv → Option EntityType
 resource_slot_in (DeclaredAction p a r c ps rs) = rs
 resource_slot_in UndeclaredAction = None
 
--- what its requests are about: two types and an id, each with its place
+-- the subject of an environment's requests: two types and an id, each with its place
 pub record PlacedRequest : Type 0 where
   pub principal : PlacedType
   pub action : PlacedUid
@@ -89,7 +90,7 @@ abbrev pub resource_ty : Env → Ty
 resource_ty (Declared d ps rs) = TEntity (d.resource ∷ [])
 resource_ty Undeclared = TAnyEntity
 
--- an action has the type of its literal, which only a declared one has
+-- an action has the type of its literal; only a declared action has one
 abbrev pub action_ty : Schema → Env → Option Ty
 action_ty s (Declared d ps rs) = literal_type s d.action
 action_ty s Undeclared = Some TAnyEntity
@@ -101,21 +102,21 @@ context_ty Undeclared = TRecord no_attrs true
 
 -- ---- linking
 
--- both slot types replaced, and nothing else
+-- linking replaces both slot types, and nothing else
 abbrev pub linked : RequestEnv → Option EntityType → Option EntityType → RequestEnv
 linked (DeclaredAction p a r c ps rs) ps' rs' = DeclaredAction p a r c ps' rs'
 linked UndeclaredAction ps' rs' = UndeclaredAction
 
--- what a slot is bound to
+-- the entity that a slot is bound to
 abbrev pub bound_to : SlotId → List (SlotId × EntityUID) → Option EntityUID
 bound_to s [] = None
 bound_to s (e ∷ es) = if slot_eq s e.0 then Some e.1 else bound_to s es
 
--- the type of what a slot is bound to, as it was written
+-- the type of the entity that a slot is bound to, as it was written
 abbrev pub bound_type : SlotId → List (SlotId × EntityUID) → Option PlacedType
 bound_type s es = option_map (λ u. placed_type u.entity_type) (bound_to s es)
 
--- f is e, linked to the types of what both slots are bound to
+-- f is e, linked to the types of the entities that both slots are bound to
 pub record IsLinkedTo (bindings : List (SlotId × EntityUID)) (e f : RequestEnv) : Type 0 where
   pub principal : Option EntityType
   pub resource : Option EntityType
@@ -142,6 +143,6 @@ undeclared_envs b = cond b (Undeclared ∷ []) []
 abbrev pub unlinked_envs : Schema → ValidationMode → List Env
 unlinked_envs s m = map unlinked (environments_of s.actions) ++ undeclared_envs (is_partial m)
 
--- those that are still to come
+-- the environments that are still to come
 unfoldable pub envs_left : UnlinkedRequestEnvs → List Env
 envs_left s = map (λ e. unlinked (declared_env e)) s.declared.now ++ undeclared_envs s.undeclared

@@ -1,4 +1,5 @@
--- What is made: nodes without a place, an expression at another place, and the attributes of a record from a list.
+-- Constructors: nodes without a place, an expression at another place, and record attributes from a
+-- list.
 use Rattle.std.specs.Prelude.{Bool, List, [], ◌∷◌, Option, None}
 use Rattle.std.specs.Ordering.{match_ordering}
 use Rattle.cedar_types.specs.declared.base.location.Loc.{Loc}
@@ -16,11 +17,11 @@ naming p = record { place = None; names = p }
 abbrev pub unplaced : Written
 unplaced = naming no_name
 
--- a node at another place; what it names stays where it is
+-- a node at another place; its names stay at their places
 abbrev pub moved : Option Loc → Written → Written
 moved l d = record { place = l; names = d.names }
 
--- the same expression at another place; its parts stay where they are
+-- the expression at another place; its parts stay at their places
 abbrev pub at_place : Option Loc → Tree Written → Tree Written
 at_place l (lit d x) = lit (moved l d) x
 at_place l (var d x) = var (moved l d) x
@@ -40,7 +41,7 @@ at_place l (is_type d a n) = is_type (moved l d) a n
 at_place l (set_of d ts) = set_of (moved l d) ts
 at_place l (record_of d fs) = record_of (moved l d) fs
 
--- the attributes with this one, which comes in place of one of its name
+-- the attributes with this one, which replaces an attribute of its name
 abbrev pub with_attr : Text → Ty × Bool → Attrs → Attrs
 with_attr k a no_attrs = attr k a.0 a.1 no_attrs
 with_attr k a (attr l t r xs) =
@@ -49,7 +50,7 @@ with_attr k a (attr l t r xs) =
     (attr l a.0 a.1 xs)
     (attr l t r (with_attr k a xs))
 
--- the attributes with those of a list, of which a later one comes in place of an earlier one of its name
+-- the attributes with those of a list, where a later one replaces an earlier one of its name
 abbrev pub with_attrs : List (Text × (Ty × Bool)) → Attrs → Attrs
 with_attrs [] xs = xs
 with_attrs (e ∷ es) xs = with_attrs es (with_attr e.0 e.1 xs)

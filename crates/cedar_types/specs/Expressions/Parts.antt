@@ -1,4 +1,4 @@
--- The parts of an expression, and theirs.
+-- The parts of an expression, and the parts of these.
 use Rattle.std.specs.Prelude.{Bool, false, ◌||◌, cond, List, [], ◌∷◌, ◌++◌, map}
 use Rattle.cedar_types.specs.declared.base.expressions.subexpressions.ExprIterator.{ExprIterator}
 use Rattle.cedar_types.specs.declared.base.names.slots.SlotId.{SlotId}
@@ -30,12 +30,12 @@ abbrev mutual
   subexpressions (set_of d ts) = set_of d ts ∷ subexpressions_of_all ts
   subexpressions (record_of d fs) = record_of d fs ∷ subexpressions_of_fields fs
 
-  -- those of a list, from its last to its first
+  -- the subexpressions of a list, from its last member to its first
   pub subexpressions_of_all : {D : Type 0} → Trees D → List (Tree D)
   subexpressions_of_all no_trees = []
   subexpressions_of_all (tree t ts) = subexpressions_of_all ts ++ subexpressions t
 
-  -- those of a record, from its last field to its first
+  -- the subexpressions of a record, from its last field to its first
   pub subexpressions_of_fields : {D : Type 0} → Fields D → List (Tree D)
   subexpressions_of_fields no_fields = []
   subexpressions_of_fields (field k t fs) = subexpressions_of_fields fs ++ subexpressions t
@@ -62,12 +62,12 @@ abbrev mutual
   mentions_slot s (set_of d ts) = any_mentions_slot s ts
   mentions_slot s (record_of d fs) = field_mentions_slot s fs
 
-  -- in any of a list
+  -- whether the slot occurs in any member of a list
   pub any_mentions_slot : {D : Type 0} → SlotId → Trees D → Bool
   any_mentions_slot s no_trees = false
   any_mentions_slot s (tree t ts) = mentions_slot s t || any_mentions_slot s ts
 
-  -- in any field of a record
+  -- whether the slot occurs in any field of a record
   pub field_mentions_slot : {D : Type 0} → SlotId → Fields D → Bool
   field_mentions_slot s no_fields = false
   field_mentions_slot s (field k t fs) = mentions_slot s t || field_mentions_slot s fs
@@ -77,14 +77,14 @@ abbrev pub is_slot : {D : Type 0} → SlotId → Tree D → Bool
 is_slot s (slot d x) = slot_eq x s
 is_slot s _ = false
 
--- ---- the parts themselves, without theirs
+-- ---- the direct parts, without parts of these
 
--- a list's
+-- the members of a list
 abbrev pub listed : {D : Type 0} → Trees D → List (Tree D)
 listed no_trees = []
 listed (tree t ts) = t ∷ listed ts
 
--- a record's, by ascending keys
+-- the field values of a record, by ascending keys
 abbrev pub field_values : {D : Type 0} → Fields D → List (Tree D)
 field_values no_fields = []
 field_values (field k t fs) = t ∷ field_values fs
@@ -109,14 +109,14 @@ parts (is_type d a n) = a ∷ []
 parts (set_of d ts) = listed ts
 parts (record_of d fs) = field_values fs
 
--- ---- what an iterator has still to visit
+-- ---- the expressions that an iterator has still to visit
 
--- a stack of expressions gives all of the last, then all of the one before it
+-- a stack of expressions gives the subexpressions of its last, then those of the one before it
 abbrev pub from_last : {D : Type 0} → List (Tree D) → List (Tree D)
 from_last [] = []
 from_last (t ∷ ts) = from_last ts ++ subexpressions t
 
--- whether nothing will come again
+-- whether the iterator has ended
 unfoldable pub has_ended : {T : Type 0} → ExprIterator T → Bool
 has_ended s = s.ended
 

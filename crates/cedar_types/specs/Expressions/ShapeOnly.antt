@@ -1,4 +1,4 @@
--- An expression that counts by its shape alone: its equality and its order.
+-- Expressions that compare by their shape alone: their equality and their order.
 use Rattle.std.specs.Prelude.{Bool}
 use Rattle.std.specs.declared.cmp.Ordering.{Ordering}
 use denote.Builtin.{unit}
@@ -15,14 +15,14 @@ abbrev pub expr_of : ExprShapeOnly → Expr (Unit {0})
 expr_of (Borrowed e) = e.now
 expr_of (Owned e) = e
 
--- its shape
+-- the shape of the expression inside
 abbrev pub shape_of : ExprShapeOnly → Shape
 shape_of s = shape (expr_of s)
 
--- equal are those of one shape
+-- two of them are equal if they have one shape
 abbrev pub shape_eq : ExprShapeOnly → ExprShapeOnly → Bool
 shape_eq a b = tree_eq (shape_of a) (shape_of b)
 
--- a total order of shapes; which one it is, no caller may ask
+-- a total order of shapes; no caller may ask which order it is
 unfoldable pub shape_cmp : ExprShapeOnly → ExprShapeOnly → Ordering
 shape_cmp a b = (expr_ord.ghosts unit).cmp (expr_of a) (expr_of b)

@@ -1,4 +1,4 @@
--- Whether two trees are equal, as a test. The marks do not count.
+-- Equality of two trees, as a test. The marks do not count.
 use Rattle.std.specs.Prelude.{Bool, true, false, ◌&&◌, List}
 use Rattle.std.specs.Cmp.Lexicographic.{pointwise}
 use Rattle.std.specs.Ordering.{int_eq}

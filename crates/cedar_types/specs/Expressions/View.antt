@@ -13,13 +13,14 @@ use Rattle.cedar_types.specs.Expressions.Tree.{Lit, bool, long, string, entity, 
 use Rattle.cedar_types.specs.Expressions.Tree.{binary, call, get_attr, has_attr, ext_has_attr, like, is_type, set_of, record_of, Trees}
 use Rattle.cedar_types.specs.Expressions.Tree.{no_trees, tree, Fields, no_fields, field, Shape}
 
--- where the entity type or the entity id that a node itself names stands; an id has its own place and that of its type
+-- the place of the entity type or the entity id that a node itself names; an id has its own place
+-- and that of its type
 pub data Places : Type 0 where
   no_name : Places
   of_type : Option Loc → Places
   of_uid : Option Loc → Option Loc → Places
 
--- a node as it was written: its place, and that of what it names
+-- a node as it was written: its place, and that of the name in it
 pub record Written : Type 0 where
   pub place : Option Loc
   pub names : Places
@@ -48,7 +49,8 @@ abbrev pub fields_of : {D : Type 0} → List (RcStr Global × Tree D) → Fields
 fields_of [] = no_fields
 fields_of (e ∷ es) = field (text_of e.0) e.1 (fields_of es)
 
--- one form, with each expression inside already seen as its tree; the mark comes from the expression around it
+-- one form, with each expression inside already given as its tree; the mark comes from the
+-- expression around it
 abbrev pub kind_step : (T D : Type 0) → ExprKind-F T ((Places → D) → Tree D) (Tree D)
     → (Places → D) → Tree D
 kind_step T D (ExprKind-F.Lit x) d = lit (d (lit_places x)) (lit_of x)
@@ -75,12 +77,13 @@ abbrev pub expr_step : (T D : Type 0) → (T → Option Loc → Places → D)
     → Expr-F T ((Places → D) → Tree D) (Tree D) → Tree D
 expr_step T D mark e = e.kind (mark e.annotation e.loc)
 
--- the tree of an expression, with the mark that a node's annotation, its place and the places of its names give
+-- the tree of an expression, with the mark that a node's annotation, its place and the places of
+-- its names give
 abbrev pub tree_with : {T D : Type 0} → (T → Option Loc → Places → D) → Expr T → Tree D
 tree_with {T} {D} mark =
     fold-Expr T ((Places → D) → Tree D) (Tree D) (kind_step T D) (expr_step T D mark)
 
--- the same of a form, whose own mark is still open
+-- the tree of a form, whose own mark is still open
 abbrev pub kind_with : {T D : Type 0} → (T → Option Loc → Places → D) → ExprKind T
     → (Places → D) → Tree D
 kind_with {T} {D} mark =
@@ -90,11 +93,11 @@ kind_with {T} {D} mark =
 abbrev pub shape : {T : Type 0} → Expr T → Shape
 shape {T} = tree_with {T = T} {D = Unit {0}} (λ _ _ _. tt)
 
--- the whole of what was written: its form, and every place
+-- the whole of an expression as it was written: its form, and every place
 abbrev pub written : {T : Type 0} → Expr T → Tree Written
 written {T} = tree_with {T = T} {D = Written} (λ _ l p. record { place = l; names = p })
 
--- a form as it was written, in a node that stands at l
+-- a form as it was written, in a node at place l
 abbrev pub kind_written : {T : Type 0} → Option Loc → ExprKind T → Tree Written
 kind_written {T} l k =
     kind_with {T = T} {D = Written} (λ _ l p. record { place = l; names = p }) k

@@ -1,4 +1,4 @@
--- Extension functions as plain data, what is found by a name, and the faults of a table of them.
+-- Extension functions as plain data, the function of a name, and the faults of a table of them.
 use Rattle.std.specs.Prelude.{Bool, true, false, not, ◌&&◌, ◌||◌, List, [], ◌∷◌, Option, Some, None, map, option_map, if◌then◌else◌}
 use Rattle.std.specs.List.{list_any}
 use Rattle.cedar_types.specs.declared.base.expressions.extensions.ExtensionFunctionType.{ExtensionFunctionType}
@@ -9,12 +9,13 @@ use Rattle.cedar_types.specs.Expressions.Tree.{Tree}
 use Rattle.cedar_types.specs.Expressions.View.{Written}
 use Rattle.cedar_types.specs.Types.{Ty, TBool, TLong, TString, TSet, TExtension, ty_of}
 
--- what a check of arguments means: the message with which it refuses some arguments, if it does
+-- the meaning of a check of arguments: the message with which it refuses some arguments, if it
+-- refuses them
 abbrev pub Refusals : Type 0
 Refusals = List (Tree Written) → Option Text
 
--- an extension function: the types of its arguments, whether the last of them may come any further number of times, the
--- type of its answer, and the check of its arguments, where there is one
+-- an extension function: the types of its arguments, whether the last of them may be repeated any
+-- number of times, the type of its answer, and the check of its arguments, if there is one
 pub record ExtensionFunction : Type 0 where
   pub name : Path
   pub argument_types : List Ty
@@ -22,7 +23,7 @@ pub record ExtensionFunction : Type 0 where
   pub return_type : Ty
   pub check : Option Refusals
 
--- as plain data, where `meaning` says what each check means
+-- a function as plain data, where `meaning` gives the meaning of each check
 abbrev pub function_of : {C : Type 0} → (C → Refusals) → ExtensionFunctionType C → ExtensionFunction
 function_of meaning f = record {
   name = path_of f.name;
@@ -39,7 +40,7 @@ function_named n (f ∷ fs) = if path_eq n f.name then Some f else function_name
 
 -- ---- faults
 
--- a Boolean, a long, a string, or an extension value
+-- whether a type is a Boolean, a long, a string, or an extension value
 abbrev pub is_plain_type : Ty → Bool
 is_plain_type (TBool AnyBool) = true
 is_plain_type TLong = true
@@ -47,12 +48,12 @@ is_plain_type TString = true
 is_plain_type (TExtension n) = true
 is_plain_type t = false
 
--- one of these, or a set of one of them
+-- whether a type is a plain type, or a set of one
 abbrev pub may_be_returned : Ty → Bool
 may_be_returned (TSet t) = is_plain_type t
 may_be_returned t = is_plain_type t
 
--- the return type is none that a function may have
+-- the return type is not one that a function may have
 abbrev pub has_bad_return : ExtensionFunction → Bool
 has_bad_return f = not (may_be_returned f.return_type)
 
@@ -60,11 +61,11 @@ abbrev pub is_empty_list : {A : Type 0} → List A → Bool
 is_empty_list [] = true
 is_empty_list (x ∷ xs) = false
 
--- the last argument type may come any number of times, and there is none
+-- the last argument type may be repeated, but there is none
 abbrev pub lacks_arguments : ExtensionFunction → Bool
 lacks_arguments f = f.is_variadic && is_empty_list f.argument_types
 
--- some name comes twice
+-- some name is listed twice
 abbrev pub has_two_alike : List ExtensionFunction → Bool
 has_two_alike [] = false
 has_two_alike (f ∷ fs) = list_any (λ g. path_eq f.name g.name) fs || has_two_alike fs

@@ -1,4 +1,4 @@
--- The equality and the order of what capabilities are about are lawful.
+-- The equality and the order of capabilities' owners are lawful.
 use Rattle.std.proofs.Common.{◌≡◌, Bool, true, false, ◌&&◌, List, [], ◌∷◌, Option, fold, refl, sym, ap, ◌∙◌, true≢false}
 use Rattle.std.specs.Cmp.{IsTotalOrder, IsEquivalence, on_total, on_equiv, decided, then_total}
 use Rattle.std.specs.Cmp.Lexicographic.{slice_cmp, lists_total, nat_list_cmp_total, texts_ties}
@@ -60,7 +60,7 @@ shape_is_layer a l k =
     layers.seen_by_form (Unit {0}) (Unit {0}) (λ _ _ _. tt) (expr a l k)
     ∙ layers.is_layer (Unit {0}) (Unit {0}) (λ _ _ _. tt) k (λ _. tt)
 
--- what a spine ends in is no access
+-- the end of a spine is no access
 ends : (a : Unit {0}) (l : Option Loc) (k : ExprKind (Unit {0})) → is_access (shape (spine_of a l k).1) ≡ false
 ends a l (K.GetAttr' p1 a1 l1 k1 x) = ends a1 l1 k1
 ends a l k = ap is_access (shape_is_layer a l k)
@@ -77,7 +77,7 @@ same_end : (xs : List Text) (p : Spine) → (fold push p xs).1 ≡ p.1
 same_end [] p = refl
 same_end (x ∷ xs) p = same_end xs (push p x)
 
--- ---- it ties where the shapes are equal
+-- ---- the order ties if the shapes are equal
 
 no_access : (s t : Shape) (x : Text) → is_access s ≡ false → tree_eq s (got t x) ≡ false
 no_access (get_attr d s y) t x h = absurd (true≢false h)
@@ -126,7 +126,7 @@ ends_on (Owner.Lent a) =
     ap (λ e. is_access (shape e)) (same_end (texts_at a) (spine a.base.now)) ∙ ends a.base.now.annotation a.base.now.loc a.base.now.kind
 ends_on (Owner.Made e) = ends e.annotation e.loc e.kind
 
--- the order calls equal exactly what `==` calls equal
+-- the order calls owners equal exactly if `==` calls them equal
 pub owner_cmp_ties : (a b : Owner) → owner_eq a b ≡ is_eq (owner_cmp a b)
 unfolding owner_cmp
 owner_cmp_ties a b =

@@ -1,4 +1,4 @@
--- What an expression's tree is, one layer deep: a form beside the trees of its parts.
+-- The tree of an expression, one layer deep: a form beside the trees of its parts.
 use Rattle.std.proofs.Common.{◌≡◌, Option, map, rules}
 use denote.Hole.Carrier.{out}
 use Rattle.cedar_types.specs.declared.base.location.Loc.{Loc}

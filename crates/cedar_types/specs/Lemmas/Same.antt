@@ -1,4 +1,4 @@
--- The derived `==` of expressions holds exactly where the shapes are equal.
+-- The derived `==` of expressions holds exactly if the shapes are equal.
 use Rattle.std.proofs.Common.{◌≡◌, Bool, ◌&&◌, List, [], ◌∷◌, Option, map, refl, sym, subst, ◌∙◌}
 use Rattle.std.specs.declared.alloc.Global.{Global}
 use Rattle.std.specs.declared.rc.RcStr.{RcStr}

@@ -1,4 +1,4 @@
--- The equality and the order of what counts by its shape are lawful.
+-- The equality and the order of expressions that compare by shape are lawful.
 use Rattle.std.specs.Prelude.{◌≡◌}
 use Rattle.std.proofs.Common.{sym, ◌∙◌}
 use Rattle.std.specs.Cmp.{IsTotalOrder, IsEquivalence, on_total, on_equiv, decided}
@@ -18,7 +18,7 @@ pub shape_cmp_total : IsTotalOrder shape_cmp
 unfolding shape_cmp
 shape_cmp_total = on_total expr_of (expr_ord_laws.total-law unit)
 
--- the order calls equal exactly what `==` calls equal
+-- the order calls expressions equal exactly if `==` calls them equal
 pub shape_cmp_ties : (a b : ExprShapeOnly) → shape_eq a b ≡ is_eq (shape_cmp a b)
 unfolding shape_cmp
 shape_cmp_ties a b = sym (expr_is unit (expr_of a) (expr_of b)) ∙ expr_ord_laws.matches_eq-law unit (expr_of a) (expr_of b)

@@ -6,7 +6,7 @@ use Rattle.std.specs.declared.cmp.Ordering.{Ordering}
 use Rattle.cedar_types.specs.declared.base.names.entities.EntityType.{EntityType}
 use Rattle.cedar_types.specs.Names.{Text, Path, type_of, text_cmp, path_cmp}
 
--- each is below all that follow it
+-- each member is below all that follow it
 abbrev pub is_ascending : {A : Type 0} → (A → A → Ordering) → List A → Bool
 is_ascending cmp [] = true
 is_ascending cmp (x ∷ xs) = list_all (λ y. is_lt (cmp x y)) xs && is_ascending cmp xs
@@ -17,7 +17,7 @@ texts_ascending ts = is_ascending text_cmp ts
 abbrev pub paths_ascending : List Path → Bool
 paths_ascending ps = is_ascending path_cmp ps
 
--- there is at least one
+-- the list has at least one member
 abbrev pub has_members : {A : Type 0} → List A → Bool
 has_members [] = false
 has_members (x ∷ xs) = true

@@ -45,7 +45,7 @@ declared_action a = record {
   applies_to = applies a.kind;
 }
 
--- what some declarations say
+-- the schema that some declarations state
 abbrev pub declared : List ValidatorEntityType → List ValidatorActionId → Schema
 declared types actions =
     record { types = map declared_type types; actions = map declared_action actions }

@@ -1,4 +1,4 @@
--- Schemas whose types are well-formed, as those of every schema of the program are.
+-- Schemas whose types are well-formed, as are those of every schema of the program.
 use Rattle.std.specs.Prelude.{Bool, true, false, ◌&&◌, Option, Some, None}
 use Rattle.std.specs.List.{list_all}
 use Rattle.cedar_types.specs.Types.{TRecord, is_well_formed}
@@ -15,7 +15,8 @@ abbrev pub application_is_formed : Option Application → Bool
 application_is_formed None = true
 application_is_formed (Some a) = is_well_formed a.context
 
--- in attributes, tags and contexts, at every depth, names ascend, each once, and an entity set has a member
+-- names ascend, each once, and an entity set has a member, at every depth in attributes, tags and
+-- contexts
 abbrev pub has_formed_types : Schema → Bool
 has_formed_types s =
     list_all (λ (t : DeclaredType). kind_is_formed t.kind) s.types

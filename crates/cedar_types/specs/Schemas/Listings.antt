@@ -1,4 +1,4 @@
--- Lists of what there is, each once, in any order.
+-- Lists of the wanted names and ids, each once, in any order.
 use Rattle.std.specs.Prelude.{◌≡◌, true, false, ◌||◌, List, ◌∷◌, ◌++◌, Option, Some, None}
 use Rattle.std.specs.List.{list_all, flat_map}
 use Rattle.cedar_types.specs.Names.{Path, Uid, path_eq, uid_eq}

@@ -7,11 +7,11 @@ use Rattle.cedar_types.specs.Types.{lub_of}
 use Rattle.cedar_types.specs.declared.base.names.entities.EntityType.{EntityType}
 use Rattle.cedar_types.specs.declared.base.types.entity_sets.EntityLUB.{EntityLUB}
 
--- what some entries give for a name
+-- the set that some entries give for a name
 abbrev pub set_named : List (EntityType × EntityLUB) → Path → Option EntityLUB
 set_named es p = lookup (λ k. path_eq p (type_of k)) es
 
--- what was found for a name, if anything was, is the set of it alone
+-- the set found for a name, if there is one, is the set of it alone
 abbrev pub is_own : Path → Option EntityLUB → Bool
 is_own p None = true
 is_own p (Some s) = pointwise path_eq (lub_of s) (p ∷ [])

@@ -1,4 +1,4 @@
--- What a template names that a schema does not have.
+-- Names in a template that the schema does not have.
 use Rattle.std.specs.Prelude.{Bool, false, not, ◌&&◌, List, map, filter, Option, Some, None}
 use Rattle.std.specs.List.{flat_map, filter_map, list_any}
 use Rattle.std.specs.Option.{option_to_list}
@@ -13,24 +13,25 @@ use Rattle.cedar_types.specs.Templates.{PlainTemplate, condition_of}
 use Rattle.cedar_types.specs.Expressions.Tree.{Tree}
 use Rattle.cedar_types.specs.Expressions.View.{Written}
 
--- ---- what a template names, each occurrence
+-- ---- the names in a template, each occurrence
 
 -- the entity id that an expression itself is
 abbrev pub uids_named : Tree Written → List PlacedUid
 uids_named e = filter_map mentioned_uid (option_to_list (own_mention e))
 
--- the entity type that an expression itself names: that of its entity id, or the one that it tests for
+-- the entity type that an expression itself names: that of its entity id, or the one that it tests
+-- for
 abbrev pub types_named : Tree Written → List PlacedType
 types_named e = map mentioned_type (option_to_list (own_mention e))
 
--- those of the whole condition, so of the scope's constraints and of the rest
+-- the entity ids of the whole condition: of the scope's constraints and of the rest
 abbrev pub template_uids : PlainTemplate → List PlacedUid
 template_uids t = flat_map uids_named (subexpressions (condition_of t))
 
 abbrev pub template_types : PlainTemplate → List PlacedType
 template_types t = flat_map types_named (subexpressions (condition_of t))
 
--- ---- what is not known
+-- ---- names that the schema does not know
 
 abbrev pub is_unknown_type : Schema → Path → Bool
 is_unknown_type s p = not (knows_type s.types p)
@@ -39,7 +40,7 @@ is_unknown_type s p = not (knows_type s.types p)
 abbrev pub is_unknown_action : Schema → Uid → Bool
 is_unknown_action s u = is_action_path u.entity_type && not (declares_action s.actions u)
 
--- the id is none of those that an enumerated type has
+-- the id is not among those of an enumerated type
 abbrev pub excludes : TypeKind → Text → Bool
 excludes (EnumKind ids) i = not (list_any (text_eq i) ids)
 excludes (StandardKind xs tags) i = false

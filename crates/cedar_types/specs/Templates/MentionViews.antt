@@ -1,4 +1,4 @@
--- What the iterator over a template's mentions holds, as plain data.
+-- The state of the iterator over a template's mentions, as plain data.
 use Rattle.std.specs.Prelude.{Bool, List, [], ◌++◌, map, cond, Option, Some, None, option_map}
 use Rattle.std.specs.List.{filter_map}
 use Rattle.std.specs.Option.{option_to_list}
@@ -19,23 +19,23 @@ abbrev pub mention_of : DeclaredMention → Mention
 mention_of (DeclaredMention.Uid u) = named_uid (placed_uid u.now)
 mention_of (DeclaredMention.Type t) = named_type (placed_type t.now)
 
--- what a constraint names and has still to give: its entity, and then its type
+-- the mentions that a constraint has still to give: its entity, and then its type
 abbrev pub constraint_left : ConstraintMentions → List Mention
 constraint_left c =
     option_to_list (option_map (λ u. named_uid (placed_uid u.now)) c.uid)
     ++ option_to_list (option_map (λ t. named_type (placed_type t.now)) c.entity_type)
 
--- the resource, the actions from the last to the first, and the principal
+-- the mentions of the resource, of the actions from the last to the first, and of the principal
 abbrev pub scope_left : ScopeMentions → List Mention
 scope_left s =
     constraint_left s.resource
     ++ (action_mentions (map placed_uid s.actions.now) ++ constraint_left s.principal)
 
--- of the expressions that are still to come
+-- the mentions of the expressions that are still to come
 abbrev pub named_by_left : ExprIterator (Unit {0}) → List Mention
 named_by_left p = filter_map own_mention (expressions_left p)
 
--- of a rest that is not visited yet, or of its parts that are still to come
+-- the mentions of a rest that the walk has not visited yet, or of its parts that are still to come
 abbrev pub rest_left : Option (Bor (Expr (Unit {0}))) → Option (ExprIterator (Unit {0}))
     → List Mention
 rest_left (Some e) parts = mentions_of (written e.now)
@@ -45,7 +45,7 @@ rest_left None None = []
 abbrev pub rest_to_come : RestMentions → List Mention
 rest_to_come r = rest_left r.unvisited r.parts
 
--- the mentions that are still to come, where the walk has not ended
+-- the mentions that are still to come, if the walk has not ended
 abbrev pub mentions_to_come : Mentions → List Mention
 mentions_to_come s = rest_to_come s.rest ++ scope_left s.scope
 

@@ -1,4 +1,4 @@
--- What a template names: entity ids and entity types, each occurrence with its place.
+-- The mentions of a template: entity ids and entity types, each occurrence with its place.
 use Rattle.std.specs.Prelude.{List, [], ◌∷◌, ◌++◌, map, reverse, Option, Some, None}
 use Rattle.std.specs.List.{filter_map}
 use Rattle.cedar_types.specs.declared.base.location.Loc.{Loc}
@@ -19,14 +19,14 @@ abbrev pub mentioned_uid : Mention → Option PlacedUid
 mentioned_uid (named_uid u) = Some u
 mentioned_uid (named_type t) = None
 
--- the entity type of a mention: that of its id, or the one tested for
+-- the entity type of a mention: that of its id, or the type that it tests for
 abbrev pub mentioned_type : Mention → PlacedType
 mentioned_type (named_uid u) = record { name = u.uid.entity_type; place = u.type_place }
 mentioned_type (named_type t) = t
 
--- ---- what a template mentions
+-- ---- the mentions of a template
 
--- where the entity id of a literal stands, and where its type does
+-- the place of the entity id of a literal, and the place of its type
 abbrev pub uid_place : Places → Option Loc
 uid_place (of_uid l t) = l
 uid_place p = None
@@ -36,22 +36,23 @@ type_place (of_uid l t) = t
 type_place (of_type l) = l
 type_place no_name = None
 
--- what an expression itself names, without its parts
+-- the name that an expression itself mentions, without its parts
 abbrev pub own_mention : Tree Written → Option Mention
 own_mention (lit m (entity u)) =
     Some (named_uid record { uid = u; place = uid_place m.names; type_place = type_place m.names })
 own_mention (is_type m a n) = Some (named_type record { name = n; place = type_place m.names })
 own_mention e = None
 
--- what an expression and all its parts name
+-- the mentions of an expression and all its parts
 abbrev pub mentions_of : Tree Written → List Mention
 mentions_of e = filter_map own_mention (subexpressions e)
 
--- what the whole condition names, so the scope's constraints and the rest
+-- the mentions of the whole condition: those of the scope's constraints and of the rest
 abbrev pub template_mentions : PlainTemplate → List Mention
 template_mentions t = mentions_of (condition_of t)
 
--- ---- the same by the parts of a template, in the order of the condition's parts: from the last to the first
+-- ---- the mentions by the parts of a template, in the order of the condition's parts: from the
+-- last to the first
 
 abbrev pub reference_mentions : Reference → List Mention
 reference_mentions (to_entity u) = named_uid u ∷ []
@@ -78,7 +79,7 @@ abbrev pub rest_mentions : Option (Tree Written) → List Mention
 rest_mentions None = []
 rest_mentions (Some e) = mentions_of e
 
--- the rest, the resource, the actions and the principal
+-- the mentions of the rest, the resource, the actions and the principal
 abbrev pub mentions_by_part : PlainTemplate → List Mention
 mentions_by_part t =
     rest_mentions t.rest

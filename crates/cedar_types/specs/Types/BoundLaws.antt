@@ -43,7 +43,7 @@ SubtypingIsTransitive =
     → is_subtype m s t ≡ true → is_subtype m t u ≡ true
     → is_subtype m s u ≡ true
 
--- the test of subtypes tells exactly whether the bound is the second type
+-- the test of subtypes answers true exactly if the bound is the second type
 abbrev pub SubtypeIsByBound : Type 0
 SubtypeIsByBound =
     (m : ValidationMode) (s t : Ty)

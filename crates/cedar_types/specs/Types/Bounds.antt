@@ -46,22 +46,22 @@ abbrev mutual
 
 -- ---- entity sets and attributes
 
--- a name put at its place among ascending names, if it is not yet there
+-- the list with a name at its place among ascending names, if it is not yet there
 abbrev pub insert_path : Path → List Path → List Path
 insert_path p [] = p ∷ []
 insert_path p (q ∷ qs) = match_ordering (path_cmp p q) (p ∷ q ∷ qs) (q ∷ qs) (q ∷ insert_path p qs)
 
--- the names of both
+-- the names of both lists
 abbrev pub union : List Path → List Path → List Path
 union ps [] = ps
 union ps (q ∷ qs) = union (insert_path q ps) qs
 
--- an attribute by its name: its type, and whether it is required
+-- the attribute of this name: its type, and whether it is required
 abbrev pub find_attr : Text → Attrs → Option (Ty × Bool)
 find_attr k no_attrs = None
 find_attr k (attr l t r xs) = if text_eq k l then Some (t, r) else find_attr k xs
 
--- how many attributes
+-- the number of attributes
 abbrev pub attr_count : Attrs → ℕ
 attr_count no_attrs = 0
 attr_count (attr k t r xs) = suc (attr_count xs)
@@ -77,12 +77,13 @@ abbrev pub is_never : Ty → Bool
 is_never TNever = true
 is_never t = false
 
--- two different kinds of Bool: Bool
+-- the bound of two different kinds of Bool: Bool
 abbrev pub bool_lub : Ty → Option Ty
 bool_lub (TBool k) = Some (TBool AnyBool)
 bool_lub t = None
 
--- two sets: by element, none if the elements have none; with a set of anything: the set of anything
+-- the bound of two sets: by element, none if the elements have none; with a set of anything: the
+-- set of anything
 abbrev pub set_lub : (Ty → Option Ty) → Ty → Option Ty
 set_lub bound (TSet t) = option_map TSet (bound t)
 set_lub bound TAnySet = Some TAnySet
@@ -92,7 +93,8 @@ abbrev pub any_set_lub : Ty → Option Ty
 any_set_lub (TSet t) = Some TAnySet
 any_set_lub t = None
 
--- two different sets of entity types: none in Strict, else their union; with any entity: any entity
+-- the bound of two different sets of entity types: none in Strict, else their union; with any
+-- entity: any entity
 abbrev pub entity_lub : ValidationMode → List Path → Ty → Option Ty
 entity_lub m ps (TEntity qs) = if is_strict m then None else Some (TEntity (union ps qs))
 entity_lub m ps TAnyEntity = Some TAnyEntity
@@ -102,18 +104,19 @@ abbrev pub any_entity_lub : Ty → Option Ty
 any_entity_lub (TEntity qs) = Some TAnyEntity
 any_entity_lub t = None
 
--- two different records in Strict: both closed, and all attributes have a bound
+-- the bound of two different records in Strict: both are closed, and all attributes have a bound
 abbrev pub closed_lub : Bool → Bool → Option Attrs → Option Ty
 closed_lub o p zs = if o || p then None else option_map (λ zs. TRecord zs false) zs
 
--- in the other modes: open where a side is open, or has an attribute that was dropped
+-- the bound in the other modes: open if a side is open, or has an attribute that was dropped
 abbrev pub wide_lub : Attrs → Bool → Attrs → Bool → Attrs → Ty
 wide_lub xs o ys p zs =
     TRecord zs
     (o || p
     || not (nat_eq (attr_count zs) (attr_count xs) && nat_eq (attr_count zs) (attr_count ys)))
 
--- two different records, whose bound has these attributes: in Strict, and in the other modes
+-- the bound of two different records, whose bound has these attributes: in Strict, and in the other
+-- modes
 abbrev pub record_lub : ValidationMode → Attrs → Bool
     → (Attrs → Option Attrs) → (Attrs → Attrs) → Ty → Option Ty
 record_lub m xs o both common (TRecord ys p) =
@@ -121,8 +124,8 @@ record_lub m xs o both common (TRecord ys p) =
     else Some (wide_lub xs o ys p (common ys))
 record_lub m xs o both common t = None
 
--- the bound of s with t, where `apart` is that of s with a type that differs from s and is not Never:
--- equal types first; Never and a type: that type
+-- the bound of s with t, where `apart` gives that of s with a type that differs from s and is not
+-- Never: equal types first; Never and a type: that type
 abbrev pub lub_by : (Ty → Option Ty) → Ty → Ty → Option Ty
 lub_by apart s t = if ty_eq s t then Some s else if is_never t then Some s else apart t
 
@@ -136,7 +139,8 @@ abbrev pub with_bound : Text → Option Ty → Bool → Attrs → Attrs
 with_bound k None r zs = zs
 with_bound k (Some u) r zs = attr k u r zs
 
--- the same, if the other side has it; it is required where both are
+-- an attribute of the bound, if the other side has it and the types have a bound; required if both
+-- are
 abbrev pub with_common : Text → Option (Ty × Bool) → (Ty → Option Ty) → Bool → Attrs → Attrs
 with_common k None bound r zs = zs
 with_common k (Some a) bound r zs = with_bound k (bound a.0) (r && a.1) zs
@@ -155,7 +159,8 @@ abbrev mutual
   apart_lub m TAnyEntity t = any_entity_lub t
   apart_lub m (TExtension n) t = None
 
-  -- equal names and marks, attribute by attribute
+  -- the attributes of two sides with equal names and marks, attribute by attribute, with bounds of
+  -- their types
   pub both_attrs : ValidationMode → Attrs → Attrs → Option Attrs
   both_attrs m no_attrs no_attrs = Some no_attrs
   both_attrs m (attr k s r xs) (attr l t q ys) =
@@ -164,7 +169,7 @@ abbrev mutual
       else None
   both_attrs m xs ys = None
 
-  -- the names of both sides whose types have a bound
+  -- the attributes of names on both sides whose types have a bound
   pub common_attrs : ValidationMode → Attrs → Attrs → Attrs
   common_attrs m no_attrs ys = no_attrs
   common_attrs m (attr k s r xs) ys =
@@ -174,7 +179,7 @@ abbrev mutual
 abbrev pub lub : ValidationMode → Ty → Ty → Option Ty
 lub m s t = lub_by (apart_lub m s) s t
 
--- ---- what rests on it
+-- ---- definitions that rest on the bound
 
 abbrev pub go_on : Option Ty → (Ty → Option Ty) → Option Ty
 go_on None next = None
@@ -185,7 +190,7 @@ abbrev pub fold_lub : ValidationMode → Ty → List Ty → Option Ty
 fold_lub m u [] = Some u
 fold_lub m u (t ∷ ts) = go_on (lub m u t) (λ v. fold_lub m v ts)
 
--- the bound of a list, folded from its first member; Never of no members
+-- the bound of a list, folded from its first member; Never for an empty list
 abbrev pub list_lub : ValidationMode → List Ty → Option Ty
 list_lub m [] = Some TNever
 list_lub m (t ∷ ts) = fold_lub m t ts
@@ -194,7 +199,7 @@ abbrev pub is_just : Ty → Option Ty → Bool
 is_just t None = false
 is_just t (Some u) = ty_eq u t
 
--- s is a subtype of t where their bound is t
+-- s is a subtype of t if their bound is t
 abbrev pub is_subtype : ValidationMode → Ty → Ty → Bool
 is_subtype m s t = is_just t (lub m s t)
 
@@ -202,7 +207,7 @@ is_subtype m s t = is_just t (lub m s t)
 abbrev pub share_member : List Path → List Path → Bool
 share_member ps qs = list_any (λ p. list_any (path_eq p) qs) ps
 
--- disjoint are only two sets of entity types without a common member
+-- only two sets of entity types without a common member are disjoint
 abbrev pub are_disjoint : Ty → Ty → Bool
 are_disjoint (TEntity ps) (TEntity qs) = not (share_member ps qs)
 are_disjoint s t = false

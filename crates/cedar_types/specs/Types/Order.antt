@@ -10,7 +10,7 @@ use Rattle.cedar_types.specs.Names.{text_cmp, path_cmp}
 use Rattle.cedar_types.specs.Types.{Ty, TNever, TBool, TLong, TString, TSet, TAnySet, TRecord, TEntity, TAnyEntity, TExtension, Attrs}
 use Rattle.cedar_types.specs.Types.{no_attrs, attr}
 
--- the kinds of types in their order
+-- the rank of a type's kind in the order
 abbrev pub kind_rank : Ty → ℕ
 kind_rank TNever = 0
 kind_rank (TBool k) = 1
@@ -23,24 +23,25 @@ kind_rank (TEntity ps) = 7
 kind_rank TAnyEntity = 8
 kind_rank (TExtension n) = 9
 
--- the kinds of Booleans in their order
+-- the rank of a kind of Boolean in the order
 abbrev pub bool_rank : BoolType → ℕ
 bool_rank AnyBool = 0
 bool_rank True = 1
 bool_rank False = 2
 
--- open before closed
+-- the rank of open before that of closed
 abbrev pub open_rank : Bool → ℕ
 open_rank true = 0
 open_rank false = 1
 
--- optional before required
+-- the rank of optional before that of required
 abbrev pub required_rank : Bool → ℕ
 required_rank false = 0
 required_rank true = 1
 
 abbrev mutual
-  -- types of one kind by their parts, in the order named, and others by their kinds
+  -- the order of types: of one kind by their parts, in the order named, and of others by their
+  -- kinds
   pub ty_cmp : Ty → Ty → Ordering
   ty_cmp (TBool j) (TBool k) = nat_cmp (bool_rank j) (bool_rank k)
   ty_cmp (TSet s) (TSet t) = ty_cmp s t
@@ -50,7 +51,7 @@ abbrev mutual
   ty_cmp (TExtension n) (TExtension m) = path_cmp n m
   ty_cmp s t = nat_cmp (kind_rank s) (kind_rank t)
 
-  -- attributes as lists: by name, then by type, then by mark
+  -- the order of attributes as lists: by name, then by type, then by mark
   pub attrs_cmp : Attrs → Attrs → Ordering
   attrs_cmp no_attrs no_attrs = Equal
   attrs_cmp no_attrs (attr l t q ys) = Less
@@ -71,6 +72,6 @@ abbrev pub insert_tys : List Ty → List Ty → List Ty
 insert_tys us [] = us
 insert_tys us (t ∷ ts) = insert_tys (insert_ty us t) ts
 
--- some types in ascending order, each once
+-- the types of a list in ascending order, each once
 abbrev pub in_order : List Ty → List Ty
 in_order ts = insert_tys [] ts

@@ -1,4 +1,4 @@
--- Texts that are the same but for order and repeats.
+-- Lists of texts that are equal but for order and repeats.
 use Rattle.std.specs.Prelude.{◌≡◌, List, map}
 use Rattle.std.specs.List.{list_any}
 use Rattle.std.specs.declared.alloc.Global.{Global}

@@ -1,4 +1,4 @@
--- Where a declaration stands among others, by its name.
+-- The place of a declaration among others, by its name.
 use Rattle.std.specs.Prelude.{◌≡◌, ℕ, suc, Bool, List, [], ◌∷◌, Option, Some, None, option_map, if◌then◌else◌}
 use Rattle.std.specs.List.{list_any, find}
 use Rattle.std.specs.Map.{lookup}
@@ -21,7 +21,7 @@ declares_name same name xs k = list_any (λ x. same k (name x)) xs
 abbrev pub repeats_name : {X K : Type 0} → (K → K → Bool) → (X → K) → List X → Bool
 repeats_name same name xs = has_repeat (λ x y. same (name x) (name y)) xs
 
--- what some entries give for a name
+-- the place that some entries give for a name
 abbrev pub place_of : {N K : Type 0} → (K → K → Bool) → (N → K) → List (N × ℕ) → K → Option ℕ
 place_of same key es k = lookup (λ n. same k (key n)) es
 
