@@ -26,13 +26,13 @@ on_values (e ∷ es) =
     (fold_out-AttributeType Ty (Ty × Bool) Attrs ty_step attribute_step attributes_step e.1)
     ∙ ap (attr (text_of e.0) (ty_of e.1.attr_type) e.1.is_required) (on_values es)
 
--- what the attributes of a record show
+-- The plain attributes of a record are the entries of its map
 pub attributes_are : (a : Attributes) → attributes_of a ≡ entries_of (out-Attributes a).attrs.value.entries
 attributes_are a =
     fold_out-Attributes Ty (Ty × Bool) Attrs ty_step attribute_step attributes_step a
     ∙ on_values (out-Attributes a).attrs.value.entries
 
--- the same of attributes that were just made
+-- The plain attributes of attributes made from a map are the entries of that map
 pub attributes_made : (m : Rc (BTreeMap (RcStr Global) AttributeType) Global)
     → attributes_of (roll-Attributes (record { attrs = m })) ≡ entries_of m.value.entries
 attributes_made m =

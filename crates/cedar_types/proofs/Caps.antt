@@ -1,4 +1,4 @@
--- How the order of capabilities and the set's steps bear on what is in a set.
+-- Members of a set of capabilities, under the order of capabilities and the set's steps.
 use Rattle.std.proofs.Common.{◌≡◌, Bool, true, ◌||◌, List, [], ◌∷◌, Result, Ok, Err, IfOk, OnOk, OnErr, refl, sym, ap, ◌∙◌, true≢false}
 use Rattle.std.specs.List.{list_any}
 use Rattle.std.specs.BTreeSet.{insert_key}
@@ -16,18 +16,18 @@ use Rattle.cedar_types.proofs.Entries.Basics.{or_false, or_turned, or_regroup, t
 abbrev pub cmp : Capability → Capability → Ordering
 cmp = capability_cmp
 
--- what the test of equality tells
+-- Two capabilities are equal if the test of equality says so
 pub cap_to : (c d : Cap) → cap_eq c d ≡ true → c ≡ d
 cap_to = one_cap
 
--- the derived `==` and order of capabilities compare what they stand for
+-- The derived `==` and the order compare the plain views of capabilities
 pub cap_is : (c d : Capability) → capability_eq c d ≡ cap_eq (cap_of c) (cap_of d)
 cap_is = by_digest
 
 pub at_is : (c d : Capability) → is_eq (cmp c d) ≡ cap_eq (cap_of c) (cap_of d)
 at_is c d = sym (ord_laws.matches_eq-law c d) ∙ cap_is c d
 
--- what a lookup finds
+-- A look-up finds a capability exactly if its plain view is among those of the keys
 pub found_is : (c : Capability) (ks : List Capability) → list_any (λ k. is_eq (cmp c k)) ks ≡ among ks (cap_of c)
 found_is c [] = refl
 found_is c (k ∷ ks) = λ i. at_is c k i || found_is c ks i
@@ -37,7 +37,7 @@ equal_where Less h = absurd (true≢false (sym h))
 equal_where Equal h = refl
 equal_where Greater h = absurd (true≢false (sym h))
 
--- whether it says q picks out one capability
+-- The test for q selects one capability
 pub point : (q : Cap) → IsPoint cmp (λ c. cap_eq q (cap_of c))
 point q = record {
   alike = λ x y e. ap (cap_eq q) (cap_to (cap_of x) (cap_of y) (sym (at_is x y) ∙ ap is_eq e));
@@ -46,7 +46,7 @@ point q = record {
       (at_is x y ∙ cap_same (cap_of x) (cap_of y) (sym (cap_to q (cap_of x) h) ∙ cap_to q (cap_of y) k));
 }
 
--- a copy ties with what it was made from
+-- A copy ties with its original
 pub copy_is : (r : Result Capability AllocError) (c : Capability) → IfOk r (λ d. cap_of d ≡ cap_of c) → IfOk r (λ d. cmp d c ≡ Equal)
 copy_is (Ok d) c h = equal_where (cmp d c) (at_is d c ∙ cap_same (cap_of d) (cap_of c) h)
 copy_is (Err e) c h = h
@@ -56,13 +56,13 @@ pub adds_is : (r : Result (Unit {0}) AllocError) (c : Capability) (ks ns : List 
 adds_is (Ok u) c ks ns h = λ q. h (λ k. cap_eq q (cap_of k)) (point q)
 adds_is (Err e) c ks ns h = h
 
--- what keeps the entries keeps what is in the set
+-- A step that keeps the entries on failure keeps the members on failure
 pub keeps_is : (r : Result (Unit {0}) AllocError) (ks ns : List Capability) → OnErr r (ns ≡ ks)
     → OnErr r ((q : Cap) → among ns q ≡ among ks q)
 keeps_is (Ok u) ks ns h = h
 keeps_is (Err e) ks ns h = λ q. ap (λ xs. among xs q) h
 
--- what an ordered list has after a capability was put in its place
+-- An ordered list with a capability put in has its old members and that capability
 pub put_in : (p : Capability → Bool) → IsPoint cmp p → (ks : List Capability) (k : Capability)
     → list_any p (insert_key cmp ks k) ≡ (list_any p ks || p k)
 put_in p h [] k = or_false (p k)

@@ -1,4 +1,4 @@
--- From a step of an extended `has` to the next one.
+-- Steps of an extended `has`: from one step to the next.
 use Rattle.std.proofs.Common.{◌≡◌, ℕ, List, [], ◌∷◌, ◌++◌, ◌+◌, ◌<◌, length, get_or, map, drop, suc, fold, arith, refl, sym, ap, ◌∙◌}
 use Rattle.std.proofs.lemmas.List.Sums.{fold-append}
 use Rattle.std.proofs.Math.Seq.{drop-cons}
@@ -10,7 +10,7 @@ use Rattle.cedar_types.specs.Expressions.Tree.{Tree, map_tree}
 use Rattle.cedar_types.specs.Expressions.View.{Written, written}
 use Rattle.cedar_types.proofs.Expressions.Marks.{shape-written}
 
--- a last access is an access of what the others come to
+-- The access of a last element continues the fold over the others
 pub accessed_last : {S X : Type 0} (f : S → X → S) (s : S) (xs ys : List X) (x : X) → xs ++ (x ∷ []) ≡ ys → f (fold f s xs) x ≡ fold f s ys
 accessed_last f s xs ys x h = sym (fold-append f s xs (x ∷ [])) ∙ ap (fold f s) h
 
@@ -27,7 +27,7 @@ form_made_up : (xs : List Text) (e : Tree Written) → map_tree (λ _. tt) (fold
 form_made_up [] e = refl
 form_made_up (x ∷ xs) e = form_made_up xs (made_up e x)
 
--- what a step is of, without its places
+-- A step without its places is the shape of the step
 pub step_form : (s : ChainStep) → map_tree (λ (_ : Written). tt) (step_written s) ≡ step_shape s
 unfolding step_written step_shape
 step_form s =

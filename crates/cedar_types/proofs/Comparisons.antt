@@ -1,4 +1,4 @@
--- What the derived comparisons of types and of errors say of plain data.
+-- The derived comparisons of types and of errors, in terms of their plain views.
 pub mod Types
 pub mod SameTypes
 pub mod TypeOrder

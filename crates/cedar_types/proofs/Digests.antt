@@ -1,4 +1,4 @@
--- What digests tell of the shapes of capabilities: those of one shape have one digest.
+-- Digests of capabilities: capabilities of one shape have one digest.
 use Rattle.std.proofs.Common.{◌≡◌, ℕ, Bool, true, false, ◌&&◌, nat_eq, refl, sym, ap, subst, ◌∙◌, true≢false}
 use borrow.Author.Tests.{eq-eqb}
 use Rattle.cedar_types.specs.Capability.Digest.{digest_of, with_text, with_digest, shape_digest}
@@ -18,13 +18,13 @@ and_false : (b : Bool) → (b && false) ≡ false
 and_false true = refl
 and_false false = refl
 
--- the kinds, and names or tags, of two of one expression compare as the capabilities do
+-- A test of shapes and a test of names or tags are together the test of capabilities
 known_is : (a : Bool) (s t : Shape) (x y : Known) → tree_eq s t ≡ a → (a && known_eq.ghosts.eq x y) ≡ cap_eq (known_of s x) (known_of t y)
 known_is a s t (Known.Attribute x) (Known.Attribute y) e = λ i. sym e i && text_eq (text_of x) (text_of y)
 known_is a s t (Known.Tag x) (Known.Tag y) e = λ i. sym e i && tree_eq (shape_of x) (shape_of y)
 known_is a s t x y e = and_false a
 
--- what the test of equality tells
+-- Two capabilities are equal if the test of equality says so
 pub one_cap : (c d : Cap) → cap_eq c d ≡ true → c ≡ d
 one_cap (attribute s x) (attribute t y) h =
     λ i. attribute (tree_same.to s t (and_left (tree_eq s t) (text_eq x y) h) i)
@@ -41,7 +41,7 @@ cap_itself (tag s x) = and_both (tree_eq s s) (tree_eq x x) (tree_same.itself s)
 pub cap_same : (c d : Cap) → c ≡ d → cap_eq c d ≡ true
 cap_same c d e = subst (λ q. cap_eq c q ≡ true) e (cap_itself c)
 
--- the digest, by what a capability stands for
+-- The digest of a plain capability
 abbrev cap_digest : Cap → ℕ
 cap_digest (attribute s x) = with_text (shape_digest s) x
 cap_digest (tag s t) = with_digest (shape_digest s) (shape_digest t)
@@ -53,7 +53,7 @@ digest_is s (Known.Tag t) = refl
 pub digests_same : (s t : Shape) (k l : Known) → known_of s k ≡ known_of t l → digest_of s k ≡ digest_of t l
 digests_same s t k l same = digest_is s k ∙ ap cap_digest same ∙ sym (digest_is t l)
 
--- two capabilities of one shape have one digest
+-- Two capabilities of one shape have one digest
 pub one_digest : (c d : Capability) → cap_of c ≡ cap_of d → c.digest ≡ d.digest
 unfolding cap_of
 one_digest c d e = c.of_its_shape ∙ digests_same (shape_on c.on_expr) (shape_on d.on_expr) c.known d.known e ∙ sym d.of_its_shape
@@ -63,7 +63,7 @@ and_in true b h = refl
 and_in false true h = h refl
 and_in false false h = refl
 
--- to compare digests first, and then expressions and names or tags, is to compare what the capabilities stand for
+-- A comparison of digests, then expressions, then names or tags compares the plain capabilities
 pub by_digest : (c d : Capability)
     → (nat_eq c.digest d.digest && (tree_eq (shape_on c.on_expr) (shape_on d.on_expr) && known_eq.ghosts.eq c.known d.known))
     ≡ cap_eq (cap_of c) (cap_of d)

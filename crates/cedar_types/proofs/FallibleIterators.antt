@@ -1,4 +1,4 @@
--- An iterator whose items may be refused comes nearer its end with each item.
+-- Iterators whose items may be refused: each item brings them nearer to their end.
 use Rattle.std.proofs.Common.{◌≡◌, ◌<◌, Bool, false, List, ◌∷◌, arith}
 use Rattle.std.specs.Iterator.{size}
 use Rattle.cedar_types.specs.FallibleIterators.{calls_left}

@@ -1,4 +1,4 @@
--- What the condition of a template names: that of its parts, and the ids and types among it.
+-- Mentions in the condition of a template: those of its parts, and the ids and types among them.
 use Rattle.std.proofs.Common.{arith, ◌≡◌, refl, sym, ◌∙◌, List, [], ◌∷◌, ◌++◌, map, reverse, Option, Some, None}
 use Rattle.std.proofs.lemmas.Grind.{reverse_onto}
 use Rattle.std.proofs.lemmas.List.{append-nil}
@@ -63,7 +63,7 @@ with_rest_named : (l : Option Loc) (scope : Tree Written) (rest : Option (Tree W
 with_rest_named l scope None = refl
 with_rest_named l scope (Some e) = filter_map-append own_mention (subexpressions e) (subexpressions scope)
 
--- the condition names what the rest and the scope's constraints name
+-- The condition mentions exactly the names in the rest and in the scope's constraints
 pub mentions_are_those_of_the_condition : (t : PlainTemplate) → template_mentions t ≡ mentions_by_part t
 mentions_are_those_of_the_condition t =
     with_rest_named t.place (scope_condition t) t.rest
@@ -96,12 +96,12 @@ types_of_all [] = refl
 types_of_all (e ∷ es) =
     first_type (own_mention e) (filter_map own_mention es) ∙ (λ i. types_named e ++ types_of_all es i)
 
--- a template's entity ids are those that it mentions
+-- A template's entity ids are those that it mentions
 pub uids_are_those_mentioned : (t : PlainTemplate)
     → filter_map mentioned_uid (template_mentions t) ≡ template_uids t
 uids_are_those_mentioned t = uids_of_all (subexpressions (condition_of t))
 
--- its entity types are those of all that it mentions
+-- A template's entity types are the types of all its mentions
 pub types_are_those_mentioned : (t : PlainTemplate)
     → map mentioned_type (template_mentions t) ≡ template_types t
 types_are_those_mentioned t = types_of_all (subexpressions (condition_of t))

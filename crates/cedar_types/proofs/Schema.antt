@@ -1,4 +1,4 @@
--- What schemas keep, list and allow.
+-- Schemas: the facts that they keep, list and allow.
 pub mod Listings
 pub mod Faultless
 pub mod Memberships

@@ -1,4 +1,4 @@
--- What a slot is bound to is what the map of bindings has at it.
+-- Bindings of slots: a slot is bound to the map's entry at the slot.
 use Rattle.std.proofs.Common.{◌≡◌, refl, List, [], ◌∷◌, Option, Some}
 use Rattle.std.specs.Prelude.{if◌then◌else◌}
 use Rattle.std.specs.Ordering.{is_eq}

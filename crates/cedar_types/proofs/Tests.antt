@@ -3,11 +3,11 @@ use Rattle.std.proofs.Common.{◌≡◌, refl, sym, ap, ◌∙◌, arith, Bool, 
 use Rattle.std.specs.List.{list_any, list_all}
 use Rattle.std.proofs.Math.Bool.{or-true}
 
--- x is an element: each test that x passes, some element passes
+-- The element x is in the list: if x passes a test, some element passes it
 pub record Within {X : Type 0} (x : X) (xs : List X) : Type 0 where
   pub passes : (p : X → Bool) → p x ≡ true → list_any p xs ≡ true
 
--- an element that passes
+-- An element that passes, and is in the list
 pub record Found {X : Type 0} (p : X → Bool) (xs : List X) : Type 0 where
   pub element : X
   pub passes : p element ≡ true
@@ -37,7 +37,7 @@ none_fails p (x ∷ xs) h = along (p x) h (none_fails p xs)
     along true h k = k h
     along false h k = cc
 
--- what all elements pass, each passes
+-- An element passes each test that all elements pass
 pub each : {X : Type 0} (p : X → Bool) (xs : List X) (x : X) → list_all p xs ≡ true → Within x xs → p x ≡ true
 each p xs x h w = settle (p x) refl
   where
@@ -58,14 +58,14 @@ and_right false b h = cc
 pub and_both : (a b : Bool) → a ≡ true → b ≡ true → (a && b) ≡ true
 and_both a b h k = ap (λ r. r && b) h ∙ k
 
--- what neither of two tests passes, each fails
+-- Both tests are false if their disjunction is false
 pub or_left : (a b : Bool) → (a || b) ≡ false → a ≡ false
 or_left a b h = grind arith
 
 pub or_right : (a b : Bool) → (a || b) ≡ false → b ≡ false
 or_right a b h = grind arith
 
--- two tests that pass alike are equal
+-- Two tests are equal if each implies the other
 pub alike : (a b : Bool) → (a ≡ true → b ≡ true) → (b ≡ true → a ≡ true) → a ≡ b
 alike true b h k = sym (h refl)
 alike false true h k = k refl

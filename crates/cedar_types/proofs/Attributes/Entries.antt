@@ -1,4 +1,4 @@
--- A map's entries beside the fields that they stand for.
+-- Entries of a map, and the fields that they stand for.
 use Rattle.std.proofs.Common.{◌≡◌, List, [], ◌∷◌, ◌++◌, Global, Ordering, Less, Equal, Greater, nat_cmp, refl, ap, ◌∙◌}
 use Rattle.std.proofs.lemmas.Cmp.{nat_list_cmp_total}
 use Rattle.std.specs.Cmp.Lexicographic.{slice_cmp}
@@ -19,7 +19,7 @@ Entry = RcStr Global × Expr (Unit {0})
 abbrev pub rc_cmp : RcStr Global → RcStr Global → Ordering
 rc_cmp a b = slice_cmp nat_cmp (text_of a) (text_of b)
 
--- the fields, with t at k
+-- The fields with t at the key k
 abbrev pub put : Text → Tree Written → Fields Written → Fields Written
 put k t no_fields = field k t no_fields
 put k t (field l u fs) = match_ordering (slice_cmp nat_cmp k l) (field k t (field l u fs)) (field l t fs) (field l u (put k t fs))
@@ -41,7 +41,7 @@ below_middle : (first : Entry) (es : List Entry) (e : Entry) (more : List Entry)
 below_middle first [] e more h = h.0
 below_middle first (x ∷ es) e more h = below_middle first es e more h.1
 
--- a key that is above those before it goes last
+-- A key that is above all earlier keys goes to the end
 pub put_last : (done : List Entry) (e : Entry) (more : List Entry)
     → IsStrictlySortedBy rc_cmp (keys_of (done ++ e ∷ more)) → put (text_of e.0) (written e.1) (fields_written done)
     ≡ fields_written (done ++ e ∷ [])

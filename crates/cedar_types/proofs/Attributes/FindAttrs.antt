@@ -1,4 +1,4 @@
--- Attributes by their names: what ascending attributes hold is told by their look-ups.
+-- Attributes by name: look-ups determine ascending attributes.
 use Rattle.std.proofs.Common.{◌≡◌, refl, sym, ap, ◌∙◌, subst, Bool, true, false, Option, Some, None, if◌then◌else◌}
 use Rattle.std.specs.declared.cmp.Ordering.{Ordering}
 use Rattle.std.specs.declared.cmp.Ordering.TheVariants.{Less, Equal, Greater}
@@ -22,11 +22,11 @@ tied_texts k l e = text_to k l (texts_ties k l ∙ ap is_eq e)
 abbrev pub names_ascend : Attrs → Bool
 names_ascend xs = texts_ascending (attr_names xs)
 
--- all names are above k
+-- Each name among the attributes is above k
 abbrev pub NamesAbove : Text → Attrs → Type 0
 NamesAbove k xs = (l : Text) (a : Ty × Bool) → find_attr l xs ≡ Some a → text_cmp k l ≡ Less
 
--- a look-up in an attribute and others
+-- Look-ups in one attribute followed by others
 pub found_here : (k l : Text) (t : Ty) (r : Bool) (xs : Attrs) → text_eq k l ≡ true → find_attr k (attr l t r xs) ≡ Some (t, r)
 found_here k l t r xs e = ap (λ b. if◌then◌else◌ {A = Option (Ty × Bool)} b (Some (t, r)) (find_attr k xs)) e
 
@@ -53,7 +53,7 @@ names_above_from k (attr j t r xs) h l a e =
         (list_all (λ l. is_lt (text_cmp k l)) (attr_names xs)) h))
     by others false f = others (sym (found_later l j t r xs f) ∙ e)
 
--- the names but the first are found too, where they are above the first
+-- A look-up by a name above the first name passes over the first attribute
 later_found : (j l : Text) (t : Ty) (r : Bool) (xs : Attrs) (a : Ty × Bool) → text_cmp j l ≡ Less
     → find_attr l xs ≡ Some a → find_attr l (attr j t r xs) ≡ Some a
 later_found j l t r xs a less e =
@@ -90,7 +90,7 @@ name_absent k xs h = option_none (find_attr k xs) (λ a e. not_below_itself nat_
 some_type : (a b : Ty × Bool) → ◌≡◌ {A = Option (Ty × Bool)} (Some a) (Some b) → a ≡ b
 some_type a b e = cc
 
--- ascending attributes are told by their look-ups
+-- Ascending attributes are equal if all their look-ups agree
 pub same_look_ups : (xs ys : Attrs) → names_ascend xs ≡ true → names_ascend ys ≡ true
     → ((k : Text) → find_attr k xs ≡ find_attr k ys) → xs ≡ ys
 same_look_ups no_attrs no_attrs a b h = refl
@@ -126,7 +126,7 @@ same_look_ups (attr k s r xs) (attr l t q ys) a b h =
         λ i. attr (same i) (here i).0 (here i).1 (others (λ j. rest same j (text_eq j k) refl) i)
     by others Greater e = absurd (first_of_k (turned nat_list_cmp_total k l e) (text_eq l k) refl)
 
--- ---- what holds of each attribute's type
+-- ---- properties of each attribute's type
 abbrev pub AllTypes : (Ty → Type 0) → Attrs → Type 0
 AllTypes P no_attrs = Unit {0}
 AllTypes P (attr k t r xs) = P t × AllTypes P xs

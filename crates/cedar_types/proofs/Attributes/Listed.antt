@@ -1,4 +1,4 @@
--- An attribute that goes into a map of attributes.
+-- Attributes that are added to a map of attributes.
 use Rattle.std.proofs.Common.{◌≡◌, refl, ap, ◌∙◌, Bool, List, [], ◌∷◌}
 use Rattle.std.specs.declared.cmp.Ordering.{Ordering}
 use Rattle.std.specs.declared.cmp.Ordering.TheVariants.{Less, Equal, Greater}

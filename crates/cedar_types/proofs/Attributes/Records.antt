@@ -1,4 +1,4 @@
--- Attributes in the entries of a map, and the loops that make new ones.
+-- Attributes as the entries of a map, and the loops that make new attributes.
 use Rattle.std.proofs.Common.{◌≡◌, refl, sym, ap, ◌∙◌, ℕ, Bool, true, false, ◌&&◌, ◌||◌, not, subst, List, [], ◌∷◌, ◌++◌, map, nat_eq}
 use Rattle.std.proofs.Common.{Option, Some, None, option_map, if◌then◌else◌, length, suc, append_assoc}
 use Rattle.std.specs.declared.cmp.Ordering.{Ordering}
@@ -26,7 +26,7 @@ use Rattle.cedar_types.specs.Types.Bounds.{lub, record_lub, wide_lub, closed_lub
 abbrev pub key_cmp : RcStr Global → RcStr Global → Ordering
 key_cmp a b = text_cmp (text_of a) (text_of b)
 
--- each text is below those after it
+-- Each text is below all later texts
 abbrev pub Ascends : List Text → Type 0
 Ascends [] = Unit {0}
 Ascends (k ∷ ks) = AllByRecursion (λ l. text_cmp k l ≡ Less) ks × Ascends ks
@@ -36,7 +36,7 @@ all_texts : (k : RcStr Global) (ks : List (RcStr Global)) → AllByRecursion (λ
 all_texts k [] h = tt
 all_texts k (l ∷ ls) h = (h.0, all_texts k ls h.1)
 
--- the keys of a map ascend
+-- The keys of a map ascend
 pub ascends : (es : List (RcStr Global × AttributeType)) → IsStrictlySortedBy key_cmp (keys_of es) → Ascends (texts_of es)
 ascends [] h = tt
 ascends (e ∷ es) h = (at_head es (sorted_head key_cmp e.0 (keys_of es) h), ascends es (sorted_tail key_cmp e.0 (keys_of es) h))
@@ -46,7 +46,7 @@ ascends (e ∷ es) h = (at_head es (sorted_head key_cmp e.0 (keys_of es) h), asc
     at_head [] h = tt
     at_head (f ∷ fs) h = (h.0, at_head fs h.1)
 
--- what is in front is below what comes next
+-- Texts in front of k are below k
 pub below_next : (ks : List Text) (k : Text) (rest : List Text) → Ascends (ks ++ k ∷ rest) → AllByRecursion (λ l. text_cmp l k ≡ Less) ks
 below_next [] k rest h = tt
 below_next (l ∷ ks) k rest h = (at ks h.0, below_next ks k rest h.1)
@@ -190,7 +190,7 @@ found_in k a m e =
     ∙ found k (out-Attributes a).attrs.value.entries
     ∙ ap (λ m. option_map (λ a. (ty_of a.attr_type, a.is_required)) (lookup (is_at (key_cmp k)) m.entries)) (sym e)
 
--- ---- what remains ascends
+-- ---- ascending texts stay ascending
 pub ascends_on : (ks news : List Text) (k : Text) (rest : List Text) → news ≡ ks ++ k ∷ []
     → Ascends (ks ++ k ∷ rest) → Ascends (news ++ rest)
 ascends_on ks news k rest e h = subst Ascends (sym (ap (λ n. n ++ rest) e ∙ append_assoc ks (k ∷ []) rest)) h
@@ -233,7 +233,7 @@ pub common_lacks : (m : ValidationMode) (zs : Attrs) (k : Text) (s : Ty) (r : Bo
     → join_attrs zs (common_attrs m xs ys) ≡ whole
 common_lacks m zs k s r xs ys _ f told = ap (join_attrs zs) (sym (ap (λ a. with_common k a (lub m s) r (common_attrs m xs ys)) f)) ∙ told
 
--- the attributes of the bound of two records, where neither mode nor sides are looked at
+-- The record bound in the wide modes, from counts and attributes that are already known
 pub wide_here : (m : ValidationMode) (xs ys zs : Attrs) (o p b : Bool) (both : Attrs → Option Attrs)
     → is_strict m ≡ false → (n k l : ℕ) → n ≡ attr_count zs → k ≡ attr_count xs → l ≡ attr_count ys
     → b ≡ (o || p || not (nat_eq n k && nat_eq n l)) → zs ≡ common_attrs m xs ys
@@ -250,7 +250,7 @@ pub count_is : (a : Attributes) (m : BTreeMap (RcStr Global) AttributeType) → 
     → length m.entries ≡ attr_count (attributes_of a)
 count_is a m e = ap (λ m. length m.entries) e ∙ sym (ap attr_count (attributes_are a) ∙ size_is (out-Attributes a).attrs.value.entries)
 
--- the same as a test
+-- Ascending texts pass the test `texts_ascending`
 ascending_from : (ks : List Text) → Ascends ks → texts_ascending ks ≡ true
 ascending_from [] h = refl
 ascending_from (k ∷ ks) h = λ i. above ks h.0 i && ascending_from ks h.1 i

@@ -73,7 +73,7 @@ entity_strict m ps qs w =
     else Some (TEntity (union ps qs))) w
 
 -- ---- attributes of the bound in the wide modes, by name
--- the bound of two attributes of one name, if both are there
+-- The bound of two attributes of one name, if both exist
 abbrev pub both_found : ValidationMode → Option (Ty × Bool) → Option (Ty × Bool) → Option (Ty × Bool)
 both_found m None b = None
 both_found m (Some a) None = None
@@ -82,7 +82,7 @@ both_found m (Some a) (Some b) = option_map (λ u. (u, a.1 && b.1)) (lub m a.0 b
 pub both_none : (m : ValidationMode) (o p : Option (Ty × Bool)) → o ≡ None → both_found m o p ≡ None
 both_none m o p e = ap (λ o. both_found m o p) e
 
--- a look-up by another name passes over an attribute that may be there
+-- A look-up by another name passes over an attribute that may exist
 passed_over : (m : ValidationMode) (k l : Text) (o : Option (Ty × Bool)) (bound : Ty → Option Ty) (r : Bool)
     (zs : Attrs) → text_eq k l ≡ false → find_attr k (with_common l o bound r zs) ≡ find_attr k zs
 passed_over m k l None bound r zs e = refl
@@ -92,7 +92,7 @@ passed_over m k l (Some a) bound r zs e = by (bound a.0)
     by None = refl
     by (Some u) = found_later k l u (r && a.1) zs e
 
--- a look-up by its name finds it
+-- A look-up by its own name finds the bound of the attribute
 found_in_bound : (m : ValidationMode) (k l : Text) (s : Ty) (o : Option (Ty × Bool)) (r : Bool) (zs : Attrs)
     → text_eq k l ≡ true → find_attr k zs ≡ None → find_attr k (with_common l o (lub m s) r zs)
     ≡ both_found m (Some (s, r)) o

@@ -17,7 +17,7 @@ use Rattle.cedar_types.proofs.Attributes.FindAttrs.{text_to, names_ascend, same_
 use Rattle.cedar_types.proofs.Bounds.Steps.{never_left, never_right, set_is, entity_wide, entity_strict, both_found, find_common}
 use Rattle.cedar_types.proofs.Bounds.Steps.{common_ascends, record_wide, record_strict}
 
--- the bounds of s with well-formed types are symmetric
+-- The bounds of s with well-formed types are symmetric
 abbrev pub SymmetricAt : ValidationMode → Ty → Type 0
 SymmetricAt m s = (t : Ty) → is_well_formed t ≡ true → lub m s t ≡ lub m t s
 

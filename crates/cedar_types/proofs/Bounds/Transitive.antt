@@ -19,7 +19,7 @@ use Rattle.cedar_types.proofs.Bounds.Steps.{never_left, never_right, set_is, ent
 use Rattle.cedar_types.proofs.Bounds.Steps.{common_ascends, record_wide, record_strict}
 use Rattle.cedar_types.proofs.Bounds.Upper.{both_cons, both_differ, closed_records}
 
--- what is above what is above s is above s
+-- A supertype of a supertype of s is a supertype of s
 abbrev pub TransitiveAt : ValidationMode → Ty → Type 0
 TransitiveAt m s =
     (t u : Ty) → is_well_formed t ≡ true → is_well_formed u ≡ true → lub m s t ≡ Some t
@@ -31,7 +31,7 @@ some_is a b e = cc
 no_some : {A : Type 0} (a : A) → ◌≡◌ {A = Option A} None (Some a) → ⊥
 no_some a e = cc
 
--- where s is t
+-- A supertype of t is a supertype of s if s is t
 along : (m : ValidationMode) (s t u : Ty) → s ≡ t → lub m t u ≡ Some u → lub m s u ≡ Some u
 along m s t u e f = subst (λ v. lub m v u ≡ Some u) (sym e) f
 
@@ -145,7 +145,7 @@ open_chain false false false x y z e f =
 record_inside : (xs ys : Attrs) (o p : Bool) → ◌≡◌ {A = Option Ty} (Some (TRecord xs o)) (Some (TRecord ys p)) → (xs ≡ ys) × (o ≡ p)
 record_inside xs ys o p e = (cc, cc)
 
--- where a wide bound is the second record
+-- A wide bound that equals the second record has its attributes and its mark
 wide_inside : (m : ValidationMode) (xs ys : Attrs) (o p : Bool) → is_strict m ≡ false → names_ascend xs ≡ true
     → lub m (TRecord xs o) (TRecord ys p) ≡ Some (TRecord ys p)
     → (common_attrs m xs ys ≡ ys) × ((o || p || not (nat_eq (attr_count ys) (attr_count xs) && nat_eq (attr_count ys) (attr_count ys))) ≡ p)
@@ -156,7 +156,7 @@ wide_inside m xs ys o p w a e =
     (d.0, ap (λ zs. o || p || not (nat_eq (attr_count zs) (attr_count xs) && nat_eq (attr_count zs) (attr_count ys))) (sym d.0) ∙ d.1)
 
 -- ---- records in Strict
--- where a bound of attributes in Strict is the second side
+-- The facts that hold if a bound of attributes in Strict is the second side
 abbrev Parts : ValidationMode → Text → Ty → Bool → Attrs → Text → Ty → Bool → Attrs → Type 0
 Parts m k s r xs l t q ys = (k ≡ l) × (r ≡ q) × (lub m s t ≡ Some t) × (both_attrs m xs ys ≡ Some ys)
 
@@ -205,7 +205,7 @@ both_chain m (attr k s r xs) (attr l t q ys) (attr j u p zs) h v w e f =
     both_cons m k j s u r p xs zs (same_key k j r p name mark)
     ∙ (λ i. with_both (name i) (here i) (mark i) (rest i))
 
--- where a bound in Strict is the second record
+-- The two cases in which a bound of records in Strict is the second record
 abbrev Closed : ValidationMode → Attrs → Bool → Attrs → Bool → Type 0
 Closed m xs o ys p = (TRecord xs o ≡ TRecord ys p) ⊎ ((o ≡ false) × (p ≡ false) × (both_attrs m xs ys ≡ Some ys))
 

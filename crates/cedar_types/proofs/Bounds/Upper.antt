@@ -1,4 +1,4 @@
--- The bound of well-formed types is an upper bound, and well-formed.
+-- The bound of well-formed types is an upper bound.
 use Rattle.std.proofs.Common.{◌≡◌, refl, sym, ap, ◌∙◌, subst, Bool, true, false, ◌&&◌, ◌||◌, not, nat_eq, List, Option, Some, None}
 use Rattle.std.proofs.Common.{option_map, if◌then◌else◌}
 use Rattle.std.specs.Cmp.Lexicographic.{pointwise}
@@ -18,7 +18,7 @@ use Rattle.cedar_types.proofs.Attributes.FindAttrs.{names_ascend, same_look_ups,
 use Rattle.cedar_types.proofs.Bounds.Steps.{lub_same, lub_equal, never_left, never_right, set_is, entity_wide, entity_strict, both_found}
 use Rattle.cedar_types.proofs.Bounds.Steps.{find_common, common_ascends, record_wide, record_strict}
 
--- what bounds of s with well-formed types are: bounds of s with themselves
+-- Each bound u of s bounds s: the bound of s and u is u
 abbrev pub UpperAt : ValidationMode → Ty → Type 0
 UpperAt m s = (t u : Ty) → lub m s t ≡ Some u → lub m s u ≡ Some u
 
@@ -28,7 +28,7 @@ some_is a b e = cc
 no_some : {A : Type 0} (a : A) → ◌≡◌ {A = Option A} None (Some a) → ⊥
 no_some a e = cc
 
--- where the bound is known
+-- A bound known to be v bounds s if v does
 at_bound : (m : ValidationMode) (s v u : Ty) → ◌≡◌ {A = Option Ty} (Some v) (Some u) → lub m s v ≡ Some v → lub m s u ≡ Some u
 at_bound m s v u e f = subst (λ w. lub m s w ≡ Some w) (some_is v u e) f
 
@@ -43,7 +43,7 @@ bools_upper m False AnyBool u e = at_bound m (TBool False) (TBool AnyBool) u e r
 bools_upper m False True u e = at_bound m (TBool False) (TBool AnyBool) u e refl
 bools_upper m False False u e = at_bound m (TBool False) (TBool False) u e refl
 
--- a bound that is s itself or none
+-- A conditional bound is s itself or none
 if_some : (b : Bool) (s u : Ty) → (if b then Some s else None) ≡ Some u → s ≡ u
 if_some true s u e = some_is s u e
 if_some false s u e = absurd (no_some u e)
@@ -143,7 +143,7 @@ both_upper m (attr k s r xs) (attr l t q ys) zs h e = by (λ ws. both_upper m xs
     by others true c = parts others (lub m s t) (both_attrs m xs ys) refl refl (sym (both_cons m k l s t r q xs ys c) ∙ e)
     by others false c = absurd (no_some zs (sym (both_differ m k l s t r q xs ys c) ∙ e))
 
--- two closed records
+-- Two closed records: a bound of their attributes is a bound of the records
 pub closed_records : (m : ValidationMode) (xs zs : Attrs) → is_strict m ≡ true → both_attrs m xs zs ≡ Some zs
     → lub m (TRecord xs false) (TRecord zs false) ≡ Some (TRecord zs false)
 closed_records m xs zs w b = by (ty_eq (TRecord xs false) (TRecord zs false)) refl

@@ -17,7 +17,7 @@ use Rattle.cedar_types.proofs.Bounds.Steps.{never_left, never_right, set_is, ent
 use Rattle.cedar_types.proofs.Bounds.Steps.{record_strict}
 use Rattle.cedar_types.proofs.Bounds.Upper.{both_cons, both_differ}
 
--- the bounds of s with well-formed types are well-formed
+-- The bounds of s with well-formed types are well-formed
 abbrev pub KeepsForm : ValidationMode → Ty → Type 0
 KeepsForm m s = (t u : Ty) → is_well_formed t ≡ true → lub m s t ≡ Some u → is_well_formed u ≡ true
 
@@ -27,7 +27,7 @@ no_some a e = cc
 some_is : {A : Type 0} (a b : A) → ◌≡◌ {A = Option A} (Some a) (Some b) → a ≡ b
 some_is a b e = cc
 
--- where the bound is known
+-- A bound known to be v is well-formed if v is
 at_bound : (v u : Ty) → is_well_formed v ≡ true → ◌≡◌ {A = Option Ty} (Some v) (Some u) → is_well_formed u ≡ true
 at_bound v u w e = subst (λ t. is_well_formed t ≡ true) (some_is v u e) w
 
@@ -84,7 +84,7 @@ common_keeps m (attr k s r xs) ys h w = by (common_keeps m xs ys h.1 w) (find_at
         bound_keeps k (lub m s a.0) (r && a.1) (common_attrs m xs ys)
         (λ u e. h.0 a.0 u (found_type (λ t. is_well_formed t ≡ true) k ys (all_well_formed ys w) a f) e) others
 
--- the bound of attributes in Strict has the names of both, and well-formed types
+-- The bound of attributes in Strict has the names of the first side, and well-formed types
 both_keeps : (m : ValidationMode) (xs ys zs : Attrs) → AllTypes (KeepsForm m) xs → are_well_formed ys ≡ true
     → both_attrs m xs ys ≡ Some zs → (attr_names zs ≡ attr_names xs) × (are_well_formed zs ≡ true)
 both_keeps m no_attrs no_attrs zs h w e = let f = some_is no_attrs zs e in (ap attr_names (sym f), ap are_well_formed (sym f))

@@ -1,4 +1,5 @@
--- The derived `==` of errors and of warnings holds exactly where their plain views are equal, and so do ties of errors.
+-- The derived `==` of errors and of warnings, and ties of errors: each holds exactly if the
+-- plain views are equal.
 use Rattle.std.proofs.Common.{◌≡◌, refl, sym, ◌∙◌, Bool, true, false, ◌&&◌, List, [], ◌∷◌, Option, Some, None, map, option_map}
 use Rattle.std.specs.Option.{option_eq}
 use Rattle.std.specs.Ordering.{is_eq}

@@ -1,4 +1,4 @@
--- Tests of equality of plain errors and warnings, and that they decide it.
+-- Tests of equality of plain errors and warnings decide equality.
 use Rattle.std.proofs.Common.{◌≡◌, refl, sym, ap, arith, Bool, true, false, ◌&&◌, true≢false, List, Option, Some, None, nat_eq}
 use Rattle.std.specs.Bool.{Decides}
 use Rattle.std.specs.Option.{option_eq}
@@ -59,7 +59,7 @@ tys_eq = pointwise ty_eq
 abbrev pub paths_eq : List Path → List Path → Bool
 paths_eq = pointwise path_eq
 
--- ---- whether two plain errors are equal, as a test
+-- ---- tests of equality of two plain errors
 
 abbrev pub fault_eq : Fault → Fault → Bool
 fault_eq (unrecognized_entity_type t) (unrecognized_entity_type u) = path_eq t u
@@ -92,7 +92,7 @@ slip_eq s t = false
 abbrev pub warning_eq : Warning → Warning → Bool
 warning_eq v w = option_eq loc_eq v.place w.place && (text_eq v.policy w.policy && slip_eq v.slip w.slip)
 
--- ---- these tests decide equality
+-- ---- the tests decide equality
 
 fault_to : (f g : Fault) → fault_eq f g ≡ true → f ≡ g
 fault_to (unrecognized_entity_type t) (unrecognized_entity_type u) h = ap unrecognized_entity_type (path_same.to t u h)

@@ -1,4 +1,4 @@
--- Equality of plain types, as a test, is equality.
+-- The test of equality of plain types decides equality.
 use Rattle.std.proofs.Common.{◌≡◌, refl, sym, ap, arith, Bool, true, ◌&&◌, List, true≢false}
 use Rattle.std.specs.Bool.{Decides}
 use Rattle.std.specs.Cmp.Lexicographic.{pointwise}

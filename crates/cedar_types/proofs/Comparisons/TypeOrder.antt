@@ -70,7 +70,7 @@ bool_is j k = grind arith
 mark_is : (a b : Bool) → bool_cmp a b ≡ nat_cmp (required_rank a) (required_rank b)
 mark_is a b = grind arith
 
--- a type, one level deep
+-- The plain view of a type, one level deep
 abbrev tview : CedarType → Ty
 tview T.Never = TNever
 tview (T.Bool k) = TBool k
@@ -99,7 +99,7 @@ is_view (T.Record a o) = opened (T.Record a o)
 is_view (T.Entity k) = opened (T.Entity k)
 is_view (T.Extension n) = opened (T.Extension n)
 
--- the two orders agree at x
+-- The two orders agree at x
 abbrev Agrees : AttributeType → Type 0
 Agrees x =
     (y : AttributeType) → attribute_order x y ≡ ordering_then (ty_cmp (ty_of x.attr_type) (ty_of y.attr_type))
@@ -118,7 +118,7 @@ entries_is (x ∷ xs) [] h = refl
 entries_is (x ∷ xs) (y ∷ ys) h =
     λ i. ordering_then (ordering_then (text_cmp (text_of x.0) (text_of y.0)) (h.0 y.1 i)) (entries_is xs ys h.1 i)
 
--- from one step of the derived order
+-- The orders agree at x if one step of the derived order agrees
 agrees : (x : CedarType) → ((y : CedarType) → type_laws.unfolded x y ≡ ty_cmp (tview x) (tview y)) → (y : CedarType)
     → order x y ≡ ty_cmp (ty_of x) (ty_of y)
 agrees x h y = type_laws.is x y ∙ h y ∙ sym (λ i. ty_cmp (is_view x i) (is_view y i))
@@ -157,7 +157,7 @@ mutual
     row_agrees rest,
   )
 
--- types are ordered as their plain types are
+-- Types have the order of their plain types
 pub types_order : (x y : CedarType) → order x y ≡ ty_cmp (ty_of x) (ty_of y)
 types_order x = agrees x (step_is x)
 
@@ -167,7 +167,7 @@ map_match Less a b c = refl
 map_match Equal a b c = refl
 map_match Greater a b c = refl
 
--- a type put into a set of types
+-- A type put into a set of types, as a plain type put into the plain types
 pub type_inserted : (ks : List CedarType) (k : CedarType) → map ty_of (insert_key order ks k) ≡ insert_ty (map ty_of ks) (ty_of k)
 type_inserted [] k = refl
 type_inserted (x ∷ xs) k =

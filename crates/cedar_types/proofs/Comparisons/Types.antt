@@ -24,12 +24,12 @@ open_ties o p = grind arith
 required_ties : (r q : Bool) → mark_eq r q ≡ is_eq (nat_cmp (required_rank r) (required_rank q))
 required_ties r q = grind arith
 
--- two tests together, each of which says a tie
+-- Two tests of a tie hold together exactly if the two orders tie one after the other
 both_tie : {a b : Bool} (o p : Ordering) → a ≡ is_eq o → b ≡ is_eq p → (a && b) ≡ is_eq (ordering_then o p)
 both_tie o p e f = (λ i. e i && f i) ∙ tied_then o p
 
 mutual
-  -- types are equal where the order does not tell them apart
+  -- Types are equal exactly if their order ties them
   pub ty_ties : (s t : Ty) → ty_eq s t ≡ is_eq (ty_cmp s t)
   ty_ties (TBool j) (TBool k) = kind_ties j k
   ty_ties (TSet s) (TSet t) = ty_ties s t
@@ -37,7 +37,7 @@ mutual
       both_tie (attrs_cmp xs ys) (nat_cmp (open_rank o) (open_rank p)) (attrs_ties xs ys) (open_ties o p)
   ty_ties (TEntity ps) (TEntity qs) = lists_ties path_cmp path_ties ps qs
   ty_ties (TExtension n) (TExtension m) = path_ties n m
-  -- those without parts
+  -- Types without parts
   ty_ties TNever TNever = refl
   ty_ties TLong TLong = refl
   ty_ties TString TString = refl
@@ -55,6 +55,6 @@ mutual
   attrs_ties no_attrs no_attrs = refl
   attrs_ties xs ys = refl
 
--- `==` holds exactly where the plain types are equal
+-- The test `==` holds exactly if the plain types are equal
 pub types_same : (x y : CedarType) → ty_impl.ghosts.eq x y ≡ ty_eq (ty_of x) (ty_of y)
 types_same x y = order_laws.matches_eq-law x y ∙ ap is_eq (types_order x y) ∙ sym (ty_ties (ty_of x) (ty_of y))

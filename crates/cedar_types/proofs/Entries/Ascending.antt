@@ -11,15 +11,15 @@ use Rattle.cedar_types.specs.Capability.Entries.{IsBelowHead}
 use Rattle.cedar_types.proofs.Entries.Basics.{all_map, all_push}
 
 module _ {K : Type 0} (cmp : K → K → Ordering) where
-  -- in strictly ascending order
+  -- A list is in strictly ascending order
   abbrev pub SortedBy : List K → Type 0
   SortedBy = IsStrictlySortedBy cmp
 
-  -- x is below each of ys
+  -- The entry x is below each of ys
   abbrev pub BelowBy : K → List K → Type 0
   BelowBy x ys = AllByRecursion (λ y. cmp x y ≡ Less) ys
 
-  -- each of xs is below each of ys
+  -- Each of xs is below each of ys
   abbrev pub UnderBy : List K → List K → Type 0
   UnderBy xs ys = AllByRecursion (λ x. BelowBy x ys) xs
 
@@ -73,7 +73,7 @@ module _ {K : Type 0} {cmp : K → K → Ordering} (o : IsTotalOrder cmp) where
   sorted_push [] c s h = (tt, tt)
   sorted_push (x ∷ xs) c s h = (all_push (λ y. cmp x y ≡ Less) xs c s.0 h.0, sorted_push xs c s.1 h.1)
 
-  -- x takes the place of c at the end, and what was above x is above c
+  -- Entries below x are below c, because c ties with x
   pub under_head : (zs : List K) (c x : K) (xs : List K) → cmp c x ≡ Equal → Under zs (x ∷ xs) → AllByRecursion (λ a. cmp a c ≡ Less) zs
   under_head zs c x xs e = all_map (λ a h. alike_right o c x a e ∙ h.0) zs
 

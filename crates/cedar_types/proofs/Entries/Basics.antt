@@ -1,4 +1,4 @@
--- Facts about lists and truth values that walks over two lists rest on.
+-- Lists and truth values: facts for walks over two lists.
 use Rattle.std.proofs.Common.{◌≡◌, suc, ◌+◌, ◌<◌, Bool, true, false, ◌&&◌, ◌||◌, List, [], ◌∷◌, ◌++◌, length, refl, sym, ap, ◌∙◌}
 use Rattle.std.proofs.Common.{true≢false, arith}
 use Rattle.std.specs.List.{list_any, AllByRecursion}
@@ -6,7 +6,7 @@ use Rattle.std.proofs.lemmas.List.Folds.{list_any-append}
 use Rattle.std.specs.Ordering.{is_eq}
 use Rattle.std.specs.declared.cmp.Ordering.TheVariants.{Less, Equal}
 
--- what holds of all holds of what is left of it
+-- A property of all elements gives each property that it implies
 pub all_map : {X : Type 0} {P Q : X → Type 0} → ((x : X) → P x → Q x) → (xs : List X) → AllByRecursion P xs → AllByRecursion Q xs
 all_map f [] h = tt
 all_map f (x ∷ xs) h = (f x h.0, all_map f xs h.1)
@@ -38,7 +38,7 @@ there true true h = refl
 there true false h = h refl
 there false a h = sym (or_false a)
 
--- one entry more at the end
+-- Tests of some elements of a list with one more entry at the end
 pub any_push : {X : Type 0} (p : X → Bool) (xs : List X) (y : X) → list_any p (xs ++ y ∷ []) ≡ (list_any p xs || p y)
 any_push p xs y = list_any-append p xs (y ∷ []) ∙ ap (λ b. list_any p xs || b) (or_false (p y))
 
@@ -101,6 +101,6 @@ right_smaller ls rs y ys a =
     let p : length rs ≡ suc (length ys) = ap length a in
     omega arith
 
--- equal is not less
+-- The orderings Equal and Less differ
 pub Equal≢Less : {A : Type 0} → Equal ≡ Less → A
 Equal≢Less e = absurd (true≢false (ap is_eq e))

@@ -1,4 +1,4 @@
--- A walk over two lists that finds what both have.
+-- A walk over two lists that finds the entries that are in both.
 use Rattle.std.proofs.Common.{◌≡◌, Bool, true, false, ◌&&◌, ◌||◌, List, [], ◌∷◌, ◌++◌, refl, sym, ap, subst, ◌∙◌}
 use Rattle.std.specs.List.{list_any}
 use Rattle.std.specs.Cmp.{IsTotalOrder}
@@ -10,7 +10,7 @@ use Rattle.cedar_types.proofs.Entries.Ascending.{SortedBy, BelowBy, UnderBy, tur
 use Rattle.cedar_types.proofs.Entries.Ascending.{sorted_none, sorted_push, under_head, under_push, under_tail}
 
 module _ {K : Type 0} (cmp : K → K → Ordering) where
-  -- a walk over both of ls0 and rs0 has found what both have, up to ls and rs
+  -- A walk over both of ls0 and rs0 has found the common entries before ls and rs
   pub record Meeting (ls0 rs0 zs ls rs : List K) : Type 0 where
     pub sorted : SortedBy cmp zs
     pub left : SortedBy cmp ls
@@ -34,7 +34,7 @@ module _ {K : Type 0} {cmp : K → K → Ordering} (o : IsTotalOrder cmp) where
       λ p q. sym (or_false (list_any p zs)) ∙ ap (λ b. list_any p zs || b) (sym (and_false (list_any p xs)))
       ∙ m.has p q
 
-  -- what a point takes is alone, so it takes nothing that lies above
+  -- A point selects x alone, so it does not select y, which is above x
   differs : (p : K → Bool) → IsPoint cmp p → (x y : K) → p x ≡ true → cmp x y ≡ Less → (b : Bool) → p y ≡ b → b ≡ false
   differs p q x y h l true e = Equal≢Less (sym (q.alone x y h e) ∙ l)
   differs p q x y h l false e = refl

@@ -1,4 +1,4 @@
--- A binary search in a list in ascending order, and an insertion where it ends at a gap.
+-- A binary search in a list in ascending order, and an insertion if the search ends at a gap.
 use Rattle.std.proofs.Common.{◌≡◌, ℕ, zero, suc, ◌<◌, ◌≤◌, Bool, true, false, ◌||◌, List, [], ◌∷◌, length, Result, Ok, Err, is_ok, insert}
 use Rattle.std.proofs.Common.{refl, sym, ap, subst, ◌∙◌, true≢false, arith, get_or}
 use Rattle.std.specs.List.{list_any, AllByRecursion}
@@ -61,7 +61,7 @@ module _ {K : Type 0} {cmp : K → K → Ordering} (o : IsTotalOrder cmp) where
       (λ b. apart_greater x (get_or xs k d) (parts.1 k d b lt))
       (cases_lt k i)))
 
-  -- an insertion
+  -- An insertion into a list adds one entry to its members
 
   any_insert : (p : K → Bool) (xs : List K) (i : ℕ) (x : K) → list_any p (insert xs i x) ≡ (list_any p xs || p x)
   any_insert p xs zero x = or_turned (p x) (list_any p xs)
@@ -92,7 +92,7 @@ module _ {K : Type 0} {cmp : K → K → Ordering} (o : IsTotalOrder cmp) where
     sorted_insert ks i x s.1 (λ j d a b. lo (suc j) d (omega arith) (omega arith)) (λ j d a b. hi (suc j) d (omega arith) (omega arith)),
   )
 
-  -- where a search ends at a gap, the entry goes in there
+  -- An entry inserted at the gap that a search reports keeps the list sorted
   pub inserted_sorted : (xs : List K) (i : ℕ) (x : K) → SortedBy cmp xs
       → IsBinarySearchResult (λ y. cmp y x) xs (Err i) → SortedBy cmp (insert xs i x)
   inserted_sorted xs i x s h =
@@ -102,6 +102,6 @@ module _ {K : Type 0} {cmp : K → K → Ordering} (o : IsTotalOrder cmp) where
   pub inserted_more : (xs : List K) (i : ℕ) (x : K) → HasOneMore cmp xs x (insert xs i x)
   inserted_more xs i x = λ p q. any_insert p xs i x
 
-  -- where it ends at an entry, the set has it
+  -- A search that ends at an entry shows that the set already has the entry
   pub there_already : (xs : List K) (i : ℕ) (x : K) → i < length xs → IsBinarySearchResult (λ y. cmp y x) xs (Ok i) → HasOneMore cmp xs x xs
   there_already xs i x l h = λ p q. there (p x) (list_any p xs) (λ t. any_at p xs i l (λ d. q.alike (get_or xs i d) x (h d) ∙ t))

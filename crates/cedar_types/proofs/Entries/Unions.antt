@@ -1,4 +1,4 @@
--- A walk over two lists that puts together what either has.
+-- A walk over two lists that collects the entries that are in either.
 use Rattle.std.proofs.Common.{◌≡◌, suc, ◌+◌, ◌<◌, Bool, ◌||◌, List, [], ◌∷◌, ◌++◌, length, refl, sym, ap, subst, ◌∙◌, arith}
 use Rattle.std.proofs.Common.{Option, Some}
 use Rattle.std.specs.Prelude.{MatchOption}
@@ -13,7 +13,7 @@ use Rattle.cedar_types.proofs.Entries.Ascending.{SortedBy, UnderBy, below_alike,
 use Rattle.cedar_types.proofs.Entries.Ascending.{sorted_push, under_head, under_push, under_tail}
 
 module _ {K : Type 0} (cmp : K → K → Ordering) where
-  -- a walk over both of ls0 and rs0 has put all together, and has ls and rs before it
+  -- A walk over both of ls0 and rs0 has collected zs, and ls and rs remain
   pub record Merging (ls0 rs0 zs ls rs : List K) : Type 0 where
     pub sorted : SortedBy cmp zs
     pub left : SortedBy cmp ls
@@ -22,11 +22,11 @@ module _ {K : Type 0} (cmp : K → K → Ordering) where
     pub under_right : UnderBy cmp zs rs
     pub has : (p : K → Bool) → IsPoint cmp p → (list_any p zs || (list_any p ls || list_any p rs)) ≡ (list_any p ls0 || list_any p rs0)
 
-  -- what was put together, and what is still to come, make up both
+  -- The collected entries and the remaining entries make up both lists
   abbrev pub Pouring : (ls0 rs0 zs rs : List K) → Type 0
   Pouring ls0 rs0 zs rs = (p : K → Bool) → IsPoint cmp p → (list_any p zs || list_any p rs) ≡ (list_any p ls0 || list_any p rs0)
 
-  -- a step leaves less
+  -- A step leaves fewer entries
   pub first_smaller : (ls rs : List K) (x : K) (xs ys : List K) → IsFirst cmp ls rs x xs ys → length xs + length ys < length ls + length rs
   first_smaller ls rs x xs ys (left_first a b h) =
       let p : length ls ≡ suc (length xs) = ap length a in
@@ -41,7 +41,7 @@ module _ {K : Type 0} (cmp : K → K → Ordering) where
       let q : length rs ≡ suc (length ys) = ap length b in
       omega arith
 
-  -- the first of both, which are alike, are taken
+  -- A step takes the first entries of both lists, because they tie
   pub both_taken : (ls rs xs ys : List K) (r q : Option K) (x y : K) → r ≡ Some x → q ≡ Some y
       → ls ≡ option_to_list r ++ xs → rs ≡ option_to_list q ++ ys → cmp x y ≡ Equal
       → MatchOption r ((ls ≡ []) × (rs ≡ [])) (λ z. IsFirst cmp ls rs z xs ys)

@@ -1,4 +1,4 @@
--- Extension functions in another order, and what is found by a name among ascending ones.
+-- Tables of extension functions: another order, and look-ups by name.
 use Rattle.std.proofs.Common.{◌≡◌, refl, sym, ap, subst, ◌∙◌, ℕ, zero, suc, ◌<◌, arith, Bool, true, false, cond, ◌||◌, List, [], ◌∷◌}
 use Rattle.std.proofs.Common.{length, get_or, Option, Some, None, true≢false}
 use Rattle.std.specs.List.{list_any, AllByRecursion, IsDistinct, Contains}
@@ -20,7 +20,7 @@ fail_alike false b h k = sym (h refl)
 fail_alike true false h k = k refl
 fail_alike true true h k = refl
 
--- two functions of one name
+-- Two functions have one name
 abbrev pub same : ExtensionFunction → ExtensionFunction → Bool
 same f g = path_eq f.name g.name
 
@@ -53,7 +53,7 @@ no_two_alike (f ∷ fs) h =
     neither (list_any (same f) fs) (has_two_alike fs) (all_differ f fs (IsDistinct-head same f fs h))
     (no_two_alike fs (IsDistinct-tail same f fs h))
 
--- ---- another order of the same functions
+-- ---- another order of a table's functions
 
 module _ (xs ys : List ExtensionFunction) (moved : IsPermutation xs ys) where
   pub two_alike_moved : has_two_alike xs ≡ has_two_alike ys
@@ -69,7 +69,7 @@ module _ (xs ys : List ExtensionFunction) (moved : IsPermutation xs ys) where
 
 -- ---- the function of a name
 
--- what is found is there, and has the name
+-- The function f is in the list, and has the name n
 pub record Named (n : Path) (fs : List ExtensionFunction) (f : ExtensionFunction) : Type 0 where
   pub within : Contains fs f
   pub named : path_eq n f.name ≡ true
@@ -85,7 +85,7 @@ found_named n (g ∷ gs) f h = along (path_eq n g.name) refl (found_named n gs f
         cc in record { within = (0, omega arith, is); named = ap (λ k. path_eq n k.name) (sym is) ∙ sym e }
     along false e rest h = let r = rest h in record { within = (suc r.within.0, omega (arith, r.within.1), r.within.2); named = r.named }
 
--- no function has the name where none is found
+-- No function has the name if a look-up finds none
 pub none_named : (n : Path) (fs : List ExtensionFunction) → function_named n fs ≡ None → list_any (λ f. path_eq n f.name) fs ≡ false
 none_named n [] h = refl
 none_named n (g ∷ gs) h = along (path_eq n g.name) (none_named n gs) h
@@ -104,7 +104,7 @@ unnamed n (g ∷ gs) h = along (path_eq n g.name) (unnamed n gs) h
     along true rest h = absurd (true≢false h)
     along false rest h = rest h
 
--- where no two are alike, the one of a name is found
+-- A look-up finds the function of a name if no two functions have one name
 pub named_alone : (n : Path) (fs : List ExtensionFunction) (f : ExtensionFunction) → IsDistinct same fs
     → Named n fs f → function_named n fs ≡ Some f
 named_alone n [] f apart r = absurd (omega (arith, r.within.1))
@@ -122,7 +122,7 @@ named_alone n (g ∷ gs) f apart r = at r.within.0 r.within.1 r.within.2 (named_
         (ap (same g) (sym is) ∙ apart_from_distinct same (g ∷ gs) 0 (suc k) f apart (omega arith) lt)
         (rest (record { within = (k, omega (arith, lt), is); named = r.named }))
 
--- the same is found in another order, where no two are alike
+-- Look-ups do not depend on the order of functions if no two have one name
 pub named_moved : (xs ys : List ExtensionFunction) → IsPermutation xs ys → has_two_alike ys ≡ false → (n : Path)
     → function_named n ys ≡ function_named n xs
 named_moved xs ys moved apart n = along (function_named n xs) refl

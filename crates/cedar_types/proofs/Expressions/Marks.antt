@@ -46,7 +46,7 @@ module _ (T : Type 0) (D E : Type 0) (mark : T → Option Loc → Places → D) 
   entries_agree [] h = refl
   entries_agree (e ∷ es) h = λ i. field (text_of e.0) (h.0 i) (entries_agree es h.1 i)
 
-  -- a form agrees where its layers do
+  -- A form agrees if its layers do
   by_layers : (k : ExprKind T) (d : Places → D) → layers.layer T E coarse_mark k (λ p. g (d p)) ≡ map_tree g (layers.layer T D mark k d)
       → layers.form T E coarse_mark k (λ p. g (d p)) ≡ map_tree g (layers.form T D mark k d)
   by_layers k d h = layers.is_layer T E coarse_mark k (λ p. g (d p)) ∙ h ∙ sym (ap (map_tree g) (layers.is_layer T D mark k d))
@@ -119,14 +119,14 @@ module _ (T : Type 0) (D E : Type 0) (mark : T → Option Loc → Places → D) 
     rows_agree end_of-Expr = tt
     rows_agree (more_of-Expr a l k rest) = (from_form (expr a l k) (forms_agree k), rows_agree rest)
 
-  -- the tree with the marks g d is the tree with the marks d, mapped
+  -- The tree with the marks `g d` is the tree with the marks `d`, mapped by `g`
   pub tree_with-map : (e : Expr T) → tree_with (λ a l p. g (mark a l p)) e ≡ map_tree g (tree_with mark e)
   tree_with-map e = from_form e (forms_agree e.kind)
 
--- what was written tells the shape
+-- The shape of an expression is its written tree without marks
 pub shape-written : {T : Type 0} (e : Expr T) → shape e ≡ map_tree (λ (_ : Written). tt) (written e)
 shape-written {T} e = tree_with-map T Written (Unit {0}) (λ _ l p. record { place = l; names = p }) (λ _. tt) e
 
--- what was written alike has one shape
+-- Two expressions with equal written trees have one shape
 pub one_shape : {T : Type 0} (a b : Expr T) → written a ≡ written b → shape a ≡ shape b
 one_shape a b h = shape-written a ∙ ap (map_tree (λ (_ : Written). tt)) h ∙ sym (shape-written b)

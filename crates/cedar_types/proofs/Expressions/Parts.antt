@@ -1,4 +1,4 @@
--- The parts of an expression: what a stack of them gives, and where a slot occurs.
+-- The parts of an expression: the subexpressions that a stack gives, and occurrences of a slot.
 use Rattle.std.proofs.Common.{◌≡◌, Bool, false, ◌||◌, List, [], ◌∷◌, ◌++◌, map, refl, sym, ap, ◌∙◌, append_assoc}
 use Rattle.std.proofs.Math.Bool.{or_assoc, or_comm}
 use Rattle.std.proofs.lemmas.List.{append-nil}
@@ -18,7 +18,7 @@ use Rattle.cedar_types.specs.Expressions.Parts.{subexpressions, subexpressions_o
 use Rattle.cedar_types.specs.Expressions.Parts.{any_mentions_slot, field_mentions_slot, is_slot, listed, field_values, parts, from_last}
 
 module _ {D : Type 0} where
-  -- what lies further back on the stack comes first
+  -- The subexpressions of entries further back on the stack come first
   from_last-append : (ts us : List (Tree D)) → from_last (ts ++ us) ≡ from_last us ++ from_last ts
   from_last-append [] us = sym (append-nil (from_last us))
   from_last-append (t ∷ ts) us =
@@ -33,7 +33,7 @@ module _ {D : Type 0} where
   all_fields no_fields = refl
   all_fields (field k t fs) = ap (λ us. us ++ subexpressions t) (all_fields fs)
 
-  -- an expression, then what a stack of its parts gives
+  -- The subexpressions are the expression itself, then those from a stack of its parts
   by_parts : (t : Tree D) → subexpressions t ≡ t ∷ from_last (parts t)
   by_parts (lit d x) = refl
   by_parts (var d x) = refl
@@ -55,7 +55,7 @@ module _ {D : Type 0} where
   by_parts (set_of d ts) = ap (λ us. set_of d ts ∷ us) (all_listed ts)
   by_parts (record_of d fs) = ap (λ us. record_of d fs ∷ us) (all_fields fs)
 
-  -- the last of a stack is visited, and its parts take its place
+  -- A visit takes the last entry of a stack, and puts its parts there
   pub visited : (t : Tree D) (below : List (Tree D)) → from_last (below ++ t ∷ []) ≡ t ∷ from_last (below ++ parts t)
   visited t below =
       from_last-append below (t ∷ [])
@@ -73,13 +73,13 @@ pub field_values_again : {T : Type 0} (es : List (RcStr Global × Expr T))
 field_values_again [] = refl
 field_values_again {T} (e ∷ es) = ap (λ us. written {T = T} e.1 ∷ us) (field_values_again es)
 
--- ---- where a slot occurs
+-- ---- occurrences of a slot
 
 module _ {D : Type 0} (s : SlotId) where
   abbrev found : List (Tree D) → Bool
   found = list_any (is_slot s)
 
-  -- the parts that come later stand further left
+  -- A slot occurs in a joined list exactly if it occurs in one of its two parts
   in_both : (ts us : List (Tree D)) (b c : Bool) → found ts ≡ b → found us ≡ c → found (us ++ ts) ≡ (b || c)
   in_both ts us b c h k = list_any-append (is_slot s) us ts ∙ or_comm (found us) (found ts) ∙ (λ i. h i || k i)
 
@@ -89,7 +89,7 @@ module _ {D : Type 0} (s : SlotId) where
   both_found a b h k = in_both (subexpressions a) (subexpressions b) (mentions_slot s a) (mentions_slot s b) h k
 
   mutual
-    -- a slot is one of the subexpressions where the expression mentions it
+    -- A slot is one of the subexpressions exactly if the expression mentions it
     pub slot_found : (t : Tree D) → list_any (is_slot s) (subexpressions t) ≡ mentions_slot s t
     slot_found (lit d x) = refl
     slot_found (var d x) = refl

@@ -18,7 +18,7 @@ module _ (T : Type 0) where
   abbrev layer : ExprKind T → Option Loc → Tree Written
   layer k l = layers.layer T Written mark k (at l)
 
-  -- one form at two places
+  -- Layers of one form at two places differ only in the place
   layer_at : (k : ExprKind T) (l m : Option Loc) → layer k m ≡ at_place m (layer k l)
   layer_at (K.Lit x1) l m = refl
   layer_at (K.Var x1) l m = refl
@@ -44,7 +44,7 @@ module _ (T : Type 0) where
       ∙ layer_at k l m
       ∙ ap (at_place m) (sym (layers.is_layer T Written mark k (at l)))
 
-  -- an expression at another place is the tree at that place
+  -- The tree of an expression at another place is its tree with that place
   pub written-at : (a : T) (k : ExprKind T) (l m : Option Loc) → written (layers.expr T Written mark a m k)
       ≡ at_place m (written (layers.expr T Written mark a l k))
   written-at a k l m =

@@ -1,4 +1,4 @@
--- Tables of extension functions that ascend by name: their faults, and what is found in them.
+-- Tables of extension functions that ascend by name: their faults, and look-ups in them.
 use Rattle.std.proofs.Common.{◌≡◌, refl, sym, ap, subst, ◌∙◌, ◌⊎◌, inl, inr, ⊎_elim, ℕ, suc, ◌+◌, ◌<◌, ◌≤◌, arith, Bool, true, false, not}
 use Rattle.std.proofs.Common.{cond, ◌||◌, List, [], ◌∷◌, map, length, get_or, drop, Option, Some, None, is_some, true≢false, Ordering, Less}
 use Rattle.std.proofs.Common.{Equal, Greater, is_lt, is_eq}
@@ -22,7 +22,7 @@ use Rattle.cedar_types.proofs.Names.Paths.{path_ties, any_mapped}
 use Rattle.cedar_types.proofs.Names.Unions.{path_total}
 use Rattle.cedar_types.proofs.Expressions.ExtensionTables.{same, neither, distinct, named_alone, unnamed}
 
--- one name is below the next where it is not above it, and is not the same
+-- A name is below the next if it is not above it and differs from it
 rises : (p q : Path) → is_lt (path_cmp q p) ≡ false → not (path_eq p q) ≡ true → path_cmp p q ≡ Less
 rises p q up apart = along (path_cmp p q) refl
   where
@@ -42,7 +42,7 @@ none_passes p (x ∷ xs) h =
     neither (p x) (list_any p xs) (h 0 x (omega arith))
     (none_passes p xs (λ k d lt. h (suc k) d (omega (arith, lt))))
 
--- the first fault of some functions
+-- The first fault of a list of functions, by three tests
 pub fault_of : (fs : List ExtensionFunction) (a b r : Bool) → list_any has_bad_return fs ≡ a
     → list_any lacks_arguments fs ≡ b → has_two_alike fs ≡ r
     → table_fault fs ≡ cond a (Some ExtensionTableError.BadReturnType)
@@ -53,7 +53,7 @@ fault_of fs a b r returns lacks two =
     (cond (lacks i) (Some ExtensionTableError.VariadicWithoutArguments)
     (cond (two i) (Some ExtensionTableError.DuplicateFunction) None))
 
--- one turn of a search for an element that passes
+-- One turn of a search for an element that passes
 pub any_turn : {X : Type 0} (p : X → Bool) (xs : List X) (i : ℕ) (x : X) (b : Bool) → i < length xs
     → x ≡ get_or xs i x → p x ≡ b → list_any p (drop i xs) ≡ (b || list_any p (drop (i + 1) xs))
 any_turn p xs i x b lt is e = at_drop_more (list_any p) xs i x lt ∙ ap (λ r. r || list_any p (drop (i + 1) xs)) (ap p (sym is) ∙ e)
@@ -77,7 +77,7 @@ module _ {C : Type 0} where
       ≡ list_any (λ f. path_eq n f.name) (map (function_of meaning) fs)
   named_are meaning n fs = any_mapped (function_of meaning) (λ f. path_eq n f.name) fs
 
-  -- a test that does not ask for the checks
+  -- A test that ignores the checks gives one answer for any meaning of the checks
   test_alike : (p : ExtensionFunction → Bool) (meaning other : C → Refusals)
       → ((f : ExtensionFunctionType C) → p (function_of meaning f) ≡ p (function_of other f))
       → (fs : List (ExtensionFunctionType C))
@@ -92,7 +92,7 @@ module _ {C : Type 0} where
       λ i. (sym (named_are meaning (path_of f.name) fs) ∙ named_are other (path_of f.name) fs) i
       || two_alike meaning other fs i
 
-  -- what the checks mean is no matter for the faults
+  -- The fault of a table does not depend on the meaning of its checks
   pub fault_alike : (meaning other : C → Refusals) (fs : List (ExtensionFunctionType C))
       → table_fault (map (function_of meaning) fs) ≡ table_fault (map (function_of other) fs)
   fault_alike meaning other fs = λ i.
@@ -100,7 +100,7 @@ module _ {C : Type 0} where
       (cond (test_alike lacks_arguments meaning other (λ f. refl) fs i) (Some ExtensionTableError.VariadicWithoutArguments)
       (cond (two_alike meaning other fs i) (Some ExtensionTableError.DuplicateFunction) None))
 
-  -- a table without faults has no two alike
+  -- A table without faults has no two functions of one name
   pub apart_in_table : (meaning : C → Refusals) (fs : List (ExtensionFunctionType C))
       → is_some (table_fault (map (function_of (λ check args. None)) fs)) ≡ false
       → has_two_alike (map (function_of meaning) fs) ≡ false
@@ -127,7 +127,7 @@ module _ {C : Type 0} where
 
   -- ---- neighbours
 
-  -- the comparison of two functions in a list
+  -- The comparison of the names of two functions in a list
   pub compared : (fs : List (ExtensionFunctionType C)) (i j : ℕ) (x y d : ExtensionFunctionType C) → i < length fs → j < length fs
       → name_eq (get_or fs i x).name (get_or fs j y).name ≡ path_eq (path_of (get_or fs i d).name) (path_of (get_or fs j d).name)
   compared fs i j x y d lt lt' =
@@ -145,7 +145,7 @@ module _ {C : Type 0} where
   apart meaning [] h = refl
   apart meaning (f ∷ fs) h = neither _ _ (apart_from meaning f fs (IsDistinct-head _ f fs h)) (apart meaning fs (IsDistinct-tail _ f fs h))
 
-  -- ascending functions of which neighbours differ: no two are alike
+  -- Ascending functions have distinct names if neighbours differ
   pub neighbours_apart : (meaning : C → Refusals) (fs : List (ExtensionFunctionType C))
       → IsSortedBy (λ f g. is_lt (by_name f g)) fs
       → AllAdjacentBelow (λ f g. not (path_eq (path_of f.name) (path_of g.name)) ≡ true) fs (length fs)
@@ -157,7 +157,7 @@ module _ {C : Type 0} where
       (λ k lt. rises (path_of (get_or (f ∷ fs) k f).name) (path_of (get_or (f ∷ fs) (k + 1) f).name)
       (up k f (omega arith) lt) (differ k f lt))))
 
-  -- two neighbours that do not differ are alike
+  -- Two neighbours that do not differ have one name
   pub neighbours_alike : (meaning : C → Refusals) (fs : List (ExtensionFunctionType C)) (k : ℕ) → k + 1 < length fs
       → ((d : ExtensionFunctionType C)
       → not (path_eq (path_of (get_or fs k d).name) (path_of (get_or fs (k + 1) d).name)) ≡ false)
@@ -210,7 +210,7 @@ module _ {C : Type 0} where
       rising : IsNonDecreasingBy (λ g. ordering_index (path_cmp (path_of g.name) n)) fs
       rising = searchable_from_sorted path_total (λ g. path_of g.name) fs n up
 
-      -- all up to one that is below n are below it, and all from one that is above n are above it
+      -- Functions up to one below n are below n, and functions from one above n on are above n
       pub upper_half : (i : ℕ) (f : ExtensionFunctionType C) → i < length fs → f ≡ get_or fs i f
           → path_cmp (path_of f.name) n ≡ Less → Below (i + 1)
       upper_half i f lt is e k d a b =

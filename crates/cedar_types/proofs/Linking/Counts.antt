@@ -1,4 +1,4 @@
--- How many links the slots of one environment have.
+-- The number of links for the slots of one environment.
 use Rattle.std.proofs.Common.{◌≡◌, ◌+◌, ◌≤◌, Bool, true, false, List, [], ◌∷◌, ◌++◌, length, map, filter, refl, ap, arith, Option, Some}
 use Rattle.std.proofs.lemmas.List.{length-map, length-append}
 use Rattle.std.specs.Borrow.{Bor}
@@ -14,12 +14,12 @@ passing_at : {A : Type 0} (p : A → Bool) (x : A) (xs : List A) (b : Bool) → 
 passing_at p x xs true e h = rw e (omega arith)
 passing_at p x xs false e h = rw e (omega arith)
 
--- those that pass a test are at most all
+-- A filtered list is at most as long as the whole list
 passing : {A : Type 0} (p : A → Bool) (xs : List A) → length (filter p xs) ≤ length xs
 passing p [] = omega arith
 passing p (x ∷ xs) = passing_at p x xs (p x) refl (passing p xs)
 
--- the types above its own, and its own
+-- The types above its own, and its own, are at most one more than the declared types
 types_above_few : (ts : List DeclaredType) (own : Path) → length (types_above ts own ++ (own ∷ [])) ≤ length ts + 1
 types_above_few ts own =
     let above : length (types_above ts own) ≡ length (filter (λ t. is_among t.descendants own) ts) = length-map
@@ -28,11 +28,11 @@ types_above_few ts own =
     let all = length-append (types_above ts own) (own ∷ []) in
     omega arith
 
--- all types
+-- All type names are at most one more than the declared types
 type_names_few : (ts : List DeclaredType) → length (type_names ts) ≤ length ts + 1
 type_names_few ts = let all = length-map ts (λ t. t.name) in omega arith
 
--- the types of a slot are at most one more than the declared types
+-- The types of a slot are at most one more than the declared types
 slot_types_few : (ts : List DeclaredType) (c : Scope) (own : Path) → length (slot_types ts c own) ≤ length ts + 1
 slot_types_few ts any own = type_names_few ts
 slot_types_few ts (equal r) own = omega arith
@@ -47,7 +47,7 @@ slot_links_few true ts c own =
     omega arith
 slot_links_few false ts c own = omega arith
 
--- the links of a slot are at most one more than the declared types
+-- The links of a slot are at most one more than the declared types
 pub links_few : (links : List (Option (Bor EntityType))) (occurs : Bool) (ts : List DeclaredType) (c : Scope) (own : Path)
     → map link_of links ≡ slot_links occurs ts c own → length links ≤ length ts + 1
 links_few links occurs ts c own same =

@@ -1,4 +1,4 @@
--- Which slots the scope of a template mentions: that of the principal's constraint and that of the resource's.
+-- Slots that a template's scope mentions: those of the principal's and resource's constraints.
 use Rattle.std.proofs.Common.{◌≡◌, refl, ◌∙◌, Bool, true, false, ◌||◌, List, [], ◌∷◌, Option, map}
 use Rattle.cedar_types.specs.declared.base.location.Loc.{Loc}
 use Rattle.cedar_types.specs.declared.base.names.slots.SlotId.{SlotId}

@@ -1,4 +1,4 @@
--- The ways to link two slots, one after another.
+-- Pairs of links for two slots, one pair after another.
 use Rattle.std.proofs.Common.{◌≡◌, ℕ, ◌+◌, ◌-◌, ◌<◌, ◌≤◌, List, [], ◌∷◌, ◌++◌, length, map, drop, get_or, refl, ap, sym, ◌∙◌, arith, Option}
 use Rattle.std.proofs.lemmas.List.{drop_more, drop-append-le, get_or-map, length-map}
 use Rattle.std.proofs.Math.ListN.{drop_of_length-le}
@@ -20,7 +20,7 @@ no_resources place (p ∷ ps) = no_resources place ps
 drop_none : {A : Type 0} (j : ℕ) → drop j (let xs : List A = [] in xs) ≡ []
 drop_none j = drop_of_length-le [] (omega arith)
 
--- the first that is left of a row, and what is left after it
+-- The remaining row from a place on is the entry at that place and the rest
 row_step : {A : Type 0} (xs ys : List A) (j : ℕ) (d : A) → j < length xs → drop j (xs ++ ys) ≡ get_or xs j d ∷ (drop (j + 1) xs ++ ys)
 row_step xs ys j d h = drop-append-le j xs ys (omega arith) ∙ ap (λ zs. zs ++ ys) (drop_more xs j d h)
 
@@ -31,7 +31,7 @@ pub no_resource : (place : Place) (ps rs : List Link) (i j : ℕ) → length rs 
 no_resource place ps [] i j h k = rw (no_resources place (map link_of (drop i ps))) (drop_none j)
 no_resource place ps (r ∷ rs) i j h k = absurd (omega arith)
 
--- the row of one principal link
+-- The row of one principal link
 module _ (place : Place) (ps rs : List Link) (i j : ℕ) (p r : Link) (in_ps : i < length ps) (in_rs : j < length rs)
     (is_p : p ≡ get_or ps i p) (is_r : r ≡ get_or rs j r) where
   abbrev linked : Option Path → Option Path → Env

@@ -13,7 +13,7 @@ use Rattle.cedar_types.specs.declared.base.names.entities.EntityUID.{EntityUID}
 use Rattle.cedar_types.specs.Names.{Path, Uid, text_of, type_of, uid_of, text_cmp, path_cmp, uid_cmp, text_eq, path_eq, uid_eq}
 use Rattle.cedar_types.proofs.Names.Paths.{names_eq, names_cmp, tied_then, path_ties}
 
--- ---- equality is what the tests decide
+-- ---- tests decide equality
 
 pub path_decides : (p q : Path) → Decides (path_eq p q) (p ≡ q)
 path_decides p q =
@@ -56,7 +56,7 @@ pub uids_cmp : (u v : EntityUID)
     (text_cmp (text_of u.eid) (text_of v.eid)) ≡ uid_cmp (uid_of u) (uid_of v)
 uids_cmp u v = ap (λ r. ordering_then r (text_cmp (text_of u.eid) (text_of v.eid))) (names_cmp u.entity_type.name v.entity_type.name)
 
--- a set of ids, whose comparison is R, is asked by id
+-- A membership test under a comparison R of ids is a membership test by plain id
 pub contained_id : (R : EntityUID → Ordering) (u : Uid) → ((k : EntityUID) → R k ≡ uid_cmp u (uid_of k))
     → (ks : List EntityUID) → list_any (λ k. is_eq (R k)) ks ≡ list_any (uid_eq u) (map uid_of ks)
 contained_id R u h [] = refl
@@ -64,13 +64,13 @@ contained_id R u h (k ∷ ks) = λ i. ((ap is_eq (h k) ∙ sym (uid_ties u (uid_
 
 -- ---- maps by name
 
--- a map by names, whose comparison is R, is asked by name
+-- A look-up under a comparison R of entity types is a look-up by name
 pub type_lookup : {X : Type 0} (R : EntityType → Ordering) (p : Path)
     → ((k : EntityType) → R k ≡ path_cmp p (type_of k)) → (es : List (EntityType × X))
     → lookup (λ k. is_eq (R k)) es ≡ lookup (λ k. path_eq p (type_of k)) es
 type_lookup R p h es = ap (λ test. lookup test es) (λ i k. (ap is_eq (h k) ∙ sym (path_ties p (type_of k))) i)
 
--- a map by ids, likewise
+-- A look-up under a comparison R of ids is a look-up by plain id
 pub uid_lookup : {X : Type 0} (R : EntityUID → Ordering) (u : Uid) → ((k : EntityUID) → R k ≡ uid_cmp u (uid_of k))
     → (es : List (EntityUID × X)) → lookup (λ k. is_eq (R k)) es ≡ lookup (λ k. uid_eq u (uid_of k)) es
 uid_lookup R u h es = ap (λ test. lookup test es) (λ i k. (ap is_eq (h k) ∙ sym (uid_ties u (uid_of k))) i)

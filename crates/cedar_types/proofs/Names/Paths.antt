@@ -28,26 +28,26 @@ names_cmp a b =
     ap (λ r. ordering_then r (text_cmp (text_of a.basename) (text_of b.basename)))
     (sym (lex_map text_of text_cmp a.path.items b.path.items))
 
--- two ties together are a tie of the two orders, one after the other
+-- Two ties together are a tie of the two orders, one after the other
 pub tied_then : (o p : Ordering) → (is_eq o && is_eq p) ≡ is_eq (ordering_then o p)
 tied_then Less p = refl
 tied_then Equal p = refl
 tied_then Greater p = refl
 
--- names are equal where the order does not tell them apart
+-- Names are equal exactly if their order ties them
 pub path_ties : (p q : Path) → path_eq p q ≡ is_eq (path_cmp p q)
 path_ties p q =
     ap (λ r. r && text_eq p.basename q.basename) (lists_ties text_cmp texts_ties p.path q.path)
     ∙ ap (λ r. is_eq (slice_cmp text_cmp p.path q.path) && r) (texts_ties p.basename q.basename)
     ∙ tied_then (slice_cmp text_cmp p.path q.path) (text_cmp p.basename q.basename)
 
--- a set of entity types, whose comparison is R, is asked by name
+-- A membership test under a comparison R of entity types is a membership test by name
 pub contained : (R : EntityType → Ordering) (p : Path) → ((k : EntityType) → R k ≡ path_cmp p (type_of k))
     → (ks : List EntityType) → list_any (λ k. is_eq (R k)) ks ≡ list_any (path_eq p) (map type_of ks)
 contained R p h [] = refl
 contained R p h (k ∷ ks) = λ i. (ap is_eq (h k) ∙ sym (path_ties p (type_of k))) i || contained R p h ks i
 
--- the members of a set of entity types, whose order is R, ascend
+-- The members of a set of entity types under the order R ascend
 pub ascend : (R : EntityType → EntityType → Ordering)
     → ((a b : EntityType) → R a b ≡ path_cmp (type_of a) (type_of b)) → (ks : List EntityType)
     → IsStrictlySortedBy R ks → types_ascend ks ≡ true
@@ -70,7 +70,7 @@ map_match f Less a b c = refl
 map_match f Equal a b c = refl
 map_match f Greater a b c = refl
 
--- a type put into a set of entity types, whose order is R
+-- A type put into a set under the order R is its name put into the set's names
 pub inserted : (R : EntityType → EntityType → Ordering)
     → ((a b : EntityType) → R a b ≡ path_cmp (type_of a) (type_of b)) → (ks : List EntityType) (k : EntityType)
     → map type_of (insert_key R ks k) ≡ insert_path (type_of k) (map type_of ks)
@@ -82,7 +82,7 @@ inserted R h (x ∷ xs) k =
     ∙ ap (λ r. match_ordering (path_cmp (type_of k) (type_of x)) (type_of k ∷ type_of x ∷ map type_of xs)
     (type_of x ∷ map type_of xs) (type_of x ∷ r)) (inserted R h xs k)
 
--- copies show the same; a copy of an entity type keeps its place too
+-- Copies of entity types have the views of their originals: each copy keeps its name and place
 pub clones_alike : {B : Type 0} (f : EntityType → B) (xs ys : List EntityType)
     → ((x y : EntityType) → placed_type y ≡ placed_type x → f y ≡ f x)
     → AllZip (λ x y. placed_type y ≡ placed_type x) xs ys → map f ys ≡ map f xs
@@ -91,7 +91,7 @@ clones_alike f [] (y ∷ ys) g h = absurd h
 clones_alike f (x ∷ xs) [] g h = absurd h
 clones_alike f (x ∷ xs) (y ∷ ys) g h = λ i. g x y h.0 i ∷ clones_alike f xs ys g h.1 i
 
--- what was owned, or else was copied, shows the same
+-- An owned or copied set has the names of the original set
 pub owned_types : (s t : BTreeSet EntityType) → (t ≡ s) ⊎ AllZip (λ x y. placed_type y ≡ placed_type x) s.keys t.keys
     → map type_of t.keys ≡ map type_of s.keys
 owned_types s t (inl e) = ap (λ r. map type_of r.keys) e

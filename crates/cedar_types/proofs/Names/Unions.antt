@@ -37,11 +37,11 @@ path_total = then_total (on_total (λ p. p.path) (lists_total nat_list_cmp_total
 pub tied_paths : (p q : Path) → path_cmp p q ≡ Equal → p ≡ q
 tied_paths p q e = path_to p q (path_ties p q ∙ ap is_eq e)
 
--- whether a name is among some
+-- Membership of a name in a list
 abbrev pub has : Path → List Path → Bool
 has q ps = list_any (path_eq q) ps
 
--- all of them are above p
+-- All names in the list are above p
 abbrev pub Above : Path → List Path → Type 0
 Above p qs = (q : Path) → has q qs ≡ true → path_cmp p q ≡ Less
 
@@ -76,7 +76,7 @@ rest_ascends p ps h = and_right (list_all (λ q. is_lt (path_cmp p q)) ps) (path
 absent : (p : Path) (ps : List Path) → Above p ps → has p ps ≡ false
 absent p ps h = not_true (has p ps) (λ e. not_below_itself path_total p (h p e))
 
--- ascending names are told by their members
+-- Ascending lists of names with equal members are equal
 pub same_members : (ps qs : List Path) → paths_ascending ps ≡ true → paths_ascending qs ≡ true
     → ((r : Path) → has r ps ≡ has r qs) → ps ≡ qs
 same_members [] [] a b h = refl
@@ -193,7 +193,7 @@ union_absorbs ps qs a = same_members (union ps (union ps qs)) (union ps qs) (uni
     (λ r. has_union r ps (union ps qs) ∙ ap (λ b. has r ps || b) (has_union r ps qs)
     ∙ sym (or_twice (has r ps) (has r qs)) ∙ sym (has_union r ps qs))
 
--- the union of ps with qs is qs where qs has all of ps
+-- The union of ps with qs is qs if qs has all of ps
 pub union_of_part : (ps qs : List Path) → paths_ascending ps ≡ true → paths_ascending qs ≡ true
     → ((r : Path) → (has r ps || has r qs) ≡ has r qs) → union ps qs ≡ qs
 union_of_part ps qs a b h = same_members (union ps qs) qs (union_ascends ps qs a) b (λ r. has_union r ps qs ∙ h r)

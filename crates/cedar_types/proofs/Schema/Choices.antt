@@ -1,4 +1,4 @@
--- Sets of texts, asked by text.
+-- Sets of texts: membership tests by plain text.
 use Rattle.std.proofs.Common.{◌≡◌, refl, sym, ap, ◌∙◌, Bool, true, false, ◌||◌, List, map}
 use Rattle.std.specs.declared.alloc.Global.{Global}
 use Rattle.std.specs.declared.cmp.Ordering.TheVariants.{Equal}
@@ -10,7 +10,7 @@ use Rattle.std.proofs.lemmas.Slice.Eq.{bytes_eq-Decides}
 use Rattle.cedar_types.specs.Names.{Text, text_of, text_eq, text_cmp}
 use Rattle.cedar_types.proofs.Schema.Places.{any_mapped}
 
--- a set of texts is asked by text
+-- A membership test in a set of texts is a test by plain text
 pub contained_text : (t : Text) (ks : List (RcStr Global)) → list_any (λ k. is_eq (text_cmp t (text_of k))) ks ≡ list_any (text_eq t) (map text_of ks)
 contained_text t ks =
     ap (λ (f : RcStr Global → Bool). list_any f ks) (λ i k. sym (texts_ties t (text_of k)) i)

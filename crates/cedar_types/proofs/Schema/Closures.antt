@@ -1,4 +1,4 @@
--- Sets of descendants: what is kept of each is closed in all.
+-- Sets of descendants: if each set is kept, each set is closed.
 use Rattle.std.proofs.Common.{◌≡◌, refl, sym, ap, ◌∙◌, arith, ℕ, zero, suc, ◌<◌, Bool, true, false, ◌||◌, ◌&&◌, List, [], ◌∷◌, map, length}
 use Rattle.std.proofs.Common.{Some, cond, nat_lt, ltb-true, lt-ltb, IsTrue, ◌↔◌, take, get_or, ◌+◌}
 use Rattle.std.specs.declared.cmp.Ordering.{Ordering}
@@ -27,7 +27,7 @@ pub all_pass : {B : Type 0} (p : B → Bool) (bs : List B) → ((b : B) → With
 all_pass p [] h = refl
 all_pass p (b ∷ bs) h = and_both (p b) (list_all p bs) (h b (first_within b bs)) (all_pass p bs (λ c w. h c (later_within b c bs w)))
 
--- what is found is an element
+-- An element that a search finds is in the list
 pub found_within : {X : Type 0} (p : X → Bool) (xs : List X) (y : X) → find p xs ≡ Some y → Within y xs
 found_within p [] y h = cc
 found_within p (x ∷ xs) y h = along (p x) h (found_within p xs y)
@@ -44,7 +44,7 @@ found_passes p (x ∷ xs) y h = along (p x) refl h (found_passes p xs y)
     along true e h k = let is : x ≡ y = cc in ap p (sym is) ∙ sym e
     along false e h k = k h
 
--- what is found by a name has it, and is found by its own
+-- An element that a search by name finds has that name, and its own name finds it
 pub found_named : {X B : Type 0} (same : B → B → Bool) → ((a b : B) → Decides (same a b) (a ≡ b)) → (name : X → B)
     (xs : List X) (b : B) (x : X) → find (λ y. same b (name y)) xs ≡ Some x
     → (b ≡ name x) × (find (λ y. same (name x) (name y)) xs ≡ Some x)
@@ -60,13 +60,13 @@ either : (a b c : Bool) → (a || b) ≡ true → (a ≡ true → c ≡ true) �
 either true b c h k = ap (λ r. b || r) (k refl) ∙ or-true b
 either false b c h k = ap (λ r. r || c) h
 
--- what each of some passes, one among them passes
+-- A name among a list passes each test that all of the list pass
 pub among_passes : {B : Type 0} (same : B → B → Bool) → ((a b : B) → Decides (same a b) (a ≡ b)) → (p : B → Bool)
     (bs : List B) (b : B) → list_all p bs ≡ true → list_any (same b) bs ≡ true → p b ≡ true
 among_passes same decides p bs b all among =
     let c = found (same b) bs among in ap p ((decides b c.element).0 c.passes) ∙ each p bs c.element all c.within
 
--- each of some is among them
+-- Each element of a list is among the list
 pub all_among : {B : Type 0} (same : B → B → Bool) → ((a b : B) → Decides (same a b) (a ≡ b)) → (bs : List B) → has_all same bs bs ≡ true
 all_among same decides bs = all_pass (λ b. list_any (same b) bs) bs (λ b w. w.passes (same b) ((decides b b).1 refl))
 
@@ -98,19 +98,19 @@ module _ {X B : Type 0} (same : B → B → Bool) (decides : (a b : B) → Decid
       second (has_all same ds (of b)) (list_any (is_below same own ds b) xs) (each (is_kept same own of xs ds) ds b h w)
       (below_closes n (closed_below n kept) kept ds below b))
 
-  -- where each set is kept, each is closed
+  -- Each set is closed if each set is kept
   pub kept_closed : list_all (λ x. are_kept same own of xs (own x)) xs ≡ true → list_all (λ x. is_closed same of (own x)) xs ≡ true
   kept_closed kept =
       all_pass (λ x. is_closed same of (own x)) xs (λ x w. closed_below (suc (length (own x))) kept (own x) (omega arith)
       (each (λ x. are_kept same own of xs (own x)) xs x kept w))
 
-  -- a closed set is kept
+  -- A closed set is kept
   pub closed_kept : (ds : List B) → is_closed same of ds ≡ true → are_kept same own of xs ds ≡ true
   closed_kept ds h =
       all_pass (is_kept same own of xs ds) ds
       (λ b w. ap (λ r. r || list_any (is_below same own ds b) xs) (each (λ b. has_all same ds (of b)) ds b h w))
 
-  -- so is one whose members stand below x, or have their descendants in it
+  -- A set is kept if it has all below a smaller x, and all below its members that are not below x
   pub widest_kept : (ds : List B) (x : X) → Within x xs → length (own x) < length ds
       → (has_all same ds (own x) && list_all (λ b. list_any (same b) (own x) || has_all same ds (of b)) ds) ≡ true
       → are_kept same own of xs ds ≡ true
@@ -125,7 +125,7 @@ module _ {X B : Type 0} (same : B → B → Bool) (decides : (a b : B) → Decid
       (and_both (nat_lt (length (own x)) (length ds)) (has_all same ds (own x))
       (lt-ltb (length (own x)) (length ds) fewer) wide) t)))
 
-  -- a closed set has what descends from a member of its, and what is asked besides
+  -- A closed set with b has all below b, and passes the weaker test of its members
   pub closed_widest : (ds : List B) (x : X) (b : B) → of b ≡ own x → list_any (same b) ds ≡ true
       → is_closed same of ds ≡ true → (has_all same ds (own x)
       && list_all (λ b. list_any (same b) (own x) || has_all same ds (of b)) ds) ≡ true
@@ -136,7 +136,7 @@ module _ {X B : Type 0} (same : B → B → Bool) (decides : (a b : B) → Decid
       (λ c w. ap (λ r. list_any (same c) (own x) || r) (each (λ c. has_all same ds (of c)) ds c h w)
       ∙ or-true (list_any (same c) (own x))))
 
-  -- a set is kept that is the same as one of some that are
+  -- A set is kept if it equals a set that is kept
   pub earlier_kept : (ys : List X) (ds : List B) → list_all (λ x. are_kept same own of xs (own x)) ys ≡ true
       → list_any (λ x. pointwise same (own x) ds) ys ≡ true → are_kept same own of xs ds ≡ true
   earlier_kept ys ds kept h =
@@ -144,7 +144,7 @@ module _ {X B : Type 0} (same : B → B → Bool) (decides : (a b : B) → Decid
       let is : own x.element ≡ ds = (slice_eq-Decides {E = same} decides (own x.element) ds _ refl).0 x.passes in
       ap (are_kept same own of xs) (sym is) ∙ each (λ x. are_kept same own of xs (own x)) ys x.element kept x.within
 
--- one more of the first elements passes
+-- The first elements and the next pass if the next passes too
 pub all_next : {X Y : Type 0} (f : X → Y) (p : Y → Bool) (xs : List X) (i : ℕ) (x : X) → i < length xs
     → x ≡ get_or xs i x → list_all p (take i (map f xs)) ≡ true → p (f x) ≡ true
     → list_all p (take (i + 1) (map f xs)) ≡ true
@@ -156,20 +156,20 @@ all_next f p xs i x below is all here =
 
 -- ---- sets of keys
 
--- sets that are equal, by what is seen of their keys
+-- Sets of keys are equal exactly if the views of their keys are
 pub keys_same : {K B : Type 0} (f : K → B) (E : K → K → Bool) (same : B → B → Bool)
     → ((a b : K) → E a b ≡ same (f a) (f b)) → (ks ls : List K)
     → pointwise E ks ls ≡ pointwise same (map f ks) (map f ls)
 keys_same f E same h ks ls =
     ap (λ e. pointwise e ks ls) (λ i a b. h a b i) ∙ sym (pointwise-map f same ks ls)
 
--- a set whose order ties the keys that are seen the same, asked for what is seen of a key
+-- A membership test in a set of keys is a test of the views of the keys
 pub asked_for : {K B : Type 0} (cmp : K → K → Ordering) (f : K → B) (same : B → B → Bool)
     → ((a b : K) → is_eq (cmp a b) ≡ same (f a) (f b)) → (q : K) (ks : List K)
     → list_any (λ k. is_eq (cmp q k)) ks ≡ list_any (same (f q)) (map f ks)
 asked_for cmp f same ties q ks = ap (λ p. list_any p ks) (λ i k. ties q k i) ∙ any_mapped f (same (f q)) ks
 
--- a set that is a subset by its order, by what is seen of its keys
+-- A subset test of sets of keys is a subset test of the views of the keys
 pub subset_is : {K B : Type 0} (cmp : K → K → Ordering) (f : K → B) (same : B → B → Bool)
     → ((a b : B) → Decides (same a b) (a ≡ b)) → ((a b : K) → is_eq (cmp a b) ≡ same (f a) (f b)) → (s t : List K)
     (r : Bool)

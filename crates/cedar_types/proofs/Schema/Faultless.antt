@@ -1,4 +1,4 @@
--- What a schema without faults keeps.
+-- A schema without faults: the conditions that it meets.
 use Rattle.std.proofs.Common.{◌≡◌, refl, Bool, true, false, ◌&&◌, not, Option, Some, if◌then◌else◌, is_some}
 use Rattle.cedar_types.specs.Schemas.{Schema, has_fault, repeats_type, repeats_action, declares_action_type, are_actions, has_empty_enum}
 use Rattle.cedar_types.specs.Schemas.{types_are_known, action_descendants_declared, types_are_definite, types_are_closed}
@@ -6,7 +6,7 @@ use Rattle.cedar_types.specs.Schemas.{actions_are_closed}
 use Rattle.cedar_types.specs.declared.base.schema.errors.SchemaError.{SchemaError}
 use Rattle.cedar_types.proofs.Tests.{and_left, and_right}
 
--- no fault
+-- A schema s has no fault: it meets every condition
 pub record Faultless (s : Schema) : Type 0 where
   pub types_apart : repeats_type s.types ≡ false
   pub actions_apart : repeats_action s.actions ≡ false

@@ -1,4 +1,4 @@
--- The faults of declarations, asked of them as they are handed in.
+-- The faults of declarations, tested on the declarations as the caller passes them.
 use Rattle.std.proofs.Common.{◌≡◌, sym, ◌&&◌, not, List, map, Option, Some, None, if◌then◌else◌}
 use Rattle.std.specs.List.{list_any, list_all}
 use Rattle.std.proofs.lemmas.List.Folds.{list_all-map}
@@ -14,7 +14,7 @@ use Rattle.cedar_types.specs.declared.base.schema.errors.SchemaError.TheVariants
 use Rattle.cedar_types.specs.declared.base.schema.errors.SchemaError.TheVariants.{DescendantsNotClosed}
 use Rattle.cedar_types.proofs.Schema.Places.{any_mapped}
 
--- the later faults of some declarations, where they are looked up in us and bs
+-- The later faults of declarations, with names looked up in us and bs
 abbrev pub seen_fault : List ValidatorEntityType → List ValidatorActionId → List DeclaredType → List DeclaredAction → Option SchemaError
 seen_fault ts acts us bs =
     if list_any (λ t. is_action_path (type_of t.name)) ts then Some ActionTypeDeclared

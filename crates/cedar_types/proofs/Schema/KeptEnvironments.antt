@@ -1,4 +1,4 @@
--- The environments that a schema keeps are those of its actions.
+-- Environments that a schema keeps are those of its actions.
 use Rattle.std.proofs.Common.{◌≡◌, refl, sym, ap, subst, ◌∙◌, Bool, true, false, ◌&&◌, true≢false, List, [], ◌∷◌, ◌++◌, map}
 use Rattle.std.proofs.lemmas.Grind.{not_there}
 use Rattle.cedar_types.specs.Names.{path_eq, uid_eq}
@@ -14,7 +14,7 @@ use Rattle.cedar_types.specs.declared.base.types.ValidationMode.{ValidationMode}
 use Rattle.cedar_types.specs.declared.base.types.ValidationMode.TheVariants.{Strict, Permissive, Partial}
 use Rattle.cedar_types.proofs.Comparisons.SameTypes.{ty_same}
 
--- two equal things are told apart by no test
+-- Truncated equality implies equality if a test decides it
 told : {A : Type 0} {E : A → A → Bool} → Same E → (x y : A) → ∥ x ≡ y ∥₁ → x ≡ y
 told {A} {E} same x y h = at (E x y) refl
   where
@@ -59,7 +59,7 @@ unlinked_each : (es : List UnlinkedRequestEnv) → map (λ e. unlinked (declared
 unlinked_each [] = refl
 unlinked_each (e ∷ es) = ap (λ zs. unlinked (declared_env e) ∷ zs) (unlinked_each es)
 
--- what is to come at first
+-- The environments that remain at the start are all environments of the schema's actions
 pub all_left : (s : ValidatorSchema) (us : List UnlinkedRequestEnv) (b c : Bool) → us ≡ s.environments.items → b ≡ c
     → map (λ e. unlinked (declared_env e)) us ++ undeclared_envs b
     ≡ map unlinked (environments_of (schema_of s).actions) ++ undeclared_envs c
@@ -67,7 +67,7 @@ all_left s us b c e f =
     λ i. (ap (map (λ e. unlinked (declared_env e))) e ∙ unlinked_each s.environments.items
     ∙ ap (map unlinked) (kept s)) i ++ undeclared_envs (f i)
 
--- the mode's test
+-- The mode's test for Partial
 pub tells_partial : (m : ValidationMode) → mode_test.ghosts.eq m Partial ≡ is_partial m
 tells_partial Strict = refl
 tells_partial Permissive = refl

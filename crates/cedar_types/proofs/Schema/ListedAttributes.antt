@@ -15,7 +15,7 @@ use Rattle.cedar_types.proofs.Attributes.FindAttrs.{names_ascend}
 use Rattle.cedar_types.proofs.Bounds.Steps.{both_found, find_common, common_ascends}
 use Rattle.cedar_types.proofs.Comparisons.SameTypes.{and_left, and_right}
 
--- ---- what one type declares
+-- ---- the attributes that one type declares
 
 of_kind : (a : Text) (k : TypeKind) → find_attr a (kind_attributes k) ≡ kind_attribute a k
 of_kind a (StandardKind xs ts) = refl
@@ -46,7 +46,7 @@ declared_ascends p (t ∷ ts) h =
     by later here true = kind_ascends t.kind here
     by later here false = later
 
--- ---- what all of some types declare
+-- ---- the attributes that all of some types declare
 
 joined : (o p : Option (Ty × Bool)) → both_found Permissive o p ≡ joined_attribute o p
 joined None p = refl
@@ -73,7 +73,7 @@ module _ (ts : List DeclaredType) (formed : list_all (λ (t : DeclaredType). kin
       ∙ ap (λ o. fold (λ found q. joined_attribute found (declared_attribute ts a q)) o ps)
       (of_declared a (type_named ts p))
 
--- ---- of a type
+-- ---- the attributes of a type
 
 pub looked_up : AttributesAreLookedUp
 looked_up s TNever a h = refl

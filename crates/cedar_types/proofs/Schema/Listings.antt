@@ -1,4 +1,4 @@
--- Lists of names and ids, each once.
+-- Lists of names and ids without repeats.
 use Rattle.std.proofs.Common.{◌≡◌, refl, sym, ap, ◌∙◌, Bool, true, false, cond, ◌||◌, not, ℕ, ◌<◌, List, [], ◌∷◌, ◌++◌, map, length, get_or}
 use Rattle.std.proofs.Common.{Some, None}
 use Rattle.std.specs.declared.cmp.Ordering.{Ordering}
@@ -17,7 +17,7 @@ use Rattle.cedar_types.proofs.Names.Ids.{path_decides}
 
 -- ---- a name and others
 
--- the names but p
+-- The names other than p
 abbrev pub others : Path → List Path → List Path
 others p qs = filter (λ q. not (path_eq p q)) qs
 
@@ -71,7 +71,7 @@ apart_kept same r (x ∷ xs) h = along (r x) (apart_kept same r xs (or_right (li
         (none_kept (same x) r xs (or_left (list_any (same x) xs) (has_repeat same xs) h)) ∙ k
     along false k = k
 
--- a name and the others of a set
+-- A name and the other names of a set list the name and the set
 pub lists_within : (p : Path) (ds : List Path) → has_repeat path_eq ds ≡ false → ListsTypes (p ∷ ds) (p ∷ others p ds)
 lists_within p ds h = record {
   members = λ q. members_but p q ds;
@@ -80,7 +80,7 @@ lists_within p ds h = record {
 
 -- ---- sets
 
--- what ascends has no repeats
+-- Ascending keys have no repeats
 pub apart_sorted : {K B : Type 0} (R : K → K → Ordering) (f : K → B) (same : B → B → Bool)
     → ((a b : K) → R a b ≡ Less → same (f a) (f b) ≡ false) → (ks : List K) → IsStrictlySortedBy R ks
     → has_repeat same (map f ks) ≡ false
@@ -92,11 +92,11 @@ apart_sorted {K = K} R f same h (k ∷ ks) s = ap (λ b. b || has_repeat same (m
     above [] t = refl
     above (l ∷ ls) t = ap (λ b. b || list_any (same (f k)) (map f ls)) (h k l t.0) ∙ above ls t.1
 
--- what is less is not equal
+-- An ordering that is Less is not Equal
 pub less_apart : (o : Ordering) (b : Bool) → o ≡ Less → b ≡ is_eq o → b ≡ false
 less_apart o b h e = e ∙ ap is_eq h
 
--- one more key
+-- A set with one more key has its old members and that key
 pub inserted : {K B : Type 0} (cmp : K → K → Ordering) (f : K → B) (same : B → B → Bool)
     → ((a b : K) → cmp a b ≡ Equal → f a ≡ f b) → (k : K) (q : B) (ks : List K)
     → list_any (same q) (map f (insert_key cmp ks k)) ≡ (same q (f k) || list_any (same q) (map f ks))
@@ -121,7 +121,7 @@ inserted cmp f same h k q (x ∷ xs) = along (cmp k x) refl (inserted cmp f same
 
 -- ---- actions and their descendants
 
--- an action and its descendants more
+-- A set of actions that also takes an action and its descendants
 pub next_within : (acts : List DeclaredAction) (us : List Uid) (x : Uid) (ds : List Uid)
     → descendants_of_action acts x ≡ ds → (u : Uid) (old one all : Bool)
     → old ≡ uid_is_among (actions_within acts us) u → one ≡ (uid_eq u x || old) → all ≡ (one || uid_is_among ds u)
@@ -148,7 +148,7 @@ next_within acts us x ds is u old one all h k m =
     moved false false false true = refl
     moved false false false false = refl
 
--- what is found is there, and what is not is not
+-- A search that finds an element shows that one passes; one that finds none shows that none passes
 pub found_some : {X : Type 0} (p : X → Bool) (xs : List X) (y : X) → find p xs ≡ Some y → list_any p xs ≡ true
 found_some p [] y h = cc
 found_some p (x ∷ xs) y h = along (p x) (found_some p xs y) h
@@ -165,7 +165,7 @@ found_none p (x ∷ xs) h = along (p x) (found_none p xs) h
     along true k h = cc
     along false k h = k h
 
--- one that fails
+-- An element that fails makes the test of all elements fail
 pub all_fails : {X Y : Type 0} (f : X → Y) (p : Y → Bool) (xs : List X) (i : ℕ) (x : X) → i < length xs
     → x ≡ get_or xs i x → p (f x) ≡ false → list_all p (map f xs) ≡ false
 all_fails f p xs i x below is h = list_all-map p f xs ∙ list_all_at (λ x. p (f x)) xs i x below (ap (λ x. p (f x)) (sym is) ∙ h)

@@ -1,4 +1,4 @@
--- What may be in what.
+-- Memberships that a schema allows between types and actions.
 use Rattle.std.proofs.Common.{◌≡◌, refl, sym, ap, ◌∙◌, Bool, true, false, ◌||◌, ◌&&◌, not, List, Option, Some, None, IsTrue}
 use Rattle.std.specs.List.{list_any, list_all}
 use Rattle.std.proofs.Math.Bool.{or-true}
@@ -12,7 +12,7 @@ use Rattle.cedar_types.proofs.Names.Ids.{path_decides, uid_decides, uid_symm}
 use Rattle.cedar_types.proofs.Schema.Faultless.{faultless}
 use Rattle.cedar_types.proofs.Tests.{found, each, and_left, and_right, and_both, alike}
 
--- an action of the type l descends from one of the type r: as it is asked of the descendants of each action
+-- An action of the type l descends from one of the type r, tested on each action's descendants
 abbrev pub below_seen : List DeclaredAction → Path → Path → Bool
 below_seen acts l r = list_any (λ a. path_eq r a.name.entity_type && list_any (λ d. path_eq l d.entity_type) a.descendants) acts
 
@@ -59,7 +59,7 @@ module _ (acts : List DeclaredAction) (named : are_actions acts ≡ true) (known
       (d.within.passes (λ d. path_eq l d.entity_type)
       (ap (λ u. path_eq l u.entity_type) (sym ((uid_decides b.element.name d.element).0 d.passes)) ∙ at_l))))
 
--- the sentence on actions, as it is asked
+-- The program's test of actions is the test `action_is_below`, if the schema has no fault
 pub below_is : (s : Schema) → has_fault s ≡ false → (l r : Path)
     → (is_action_path l && is_action_path r && below_seen s.actions l r) ≡ action_is_below s.actions l r
 below_is s h l r =
@@ -68,7 +68,7 @@ below_is s h l r =
     (λ e. from_seen s.actions f.actions f.descendants l r (and_right (is_action_path l && is_action_path r) (below_seen s.actions l r) e))
     (to_seen s.actions f.actions f.descendants l r)
 
--- ---- no conforming store has more
+-- ---- a conforming store has only memberships that the schema allows
 
 second : (a b c d e : Bool) → b ≡ true → (a || b || c || d || e) ≡ true
 second a b c d e h = ap (λ b. a || b || c || d || e) h ∙ ap (λ r. r || c || d || e) (or-true a)

@@ -1,4 +1,4 @@
--- Places of declarations, and what is found through them.
+-- Places of declarations, and look-ups through them.
 use Rattle.std.proofs.Common.{◌≡◌, refl, sym, ap, ◌∙◌, arith, ℕ, zero, suc, Bool, true, false, cond, ◌||◌, List, [], ◌∷◌, ◌++◌, map, length, take, drop}
 use Rattle.std.proofs.Common.{get_or, ◌+◌, ◌<◌, ◌≤◌, Option, Some, None, is_some, option_map}
 use Rattle.std.specs.declared.cmp.Ordering.{Ordering}
@@ -17,7 +17,7 @@ use Rattle.std.proofs.lemmas.Bool.Decides.{Decides-like, same_from_decides}
 use Rattle.cedar_types.specs.Schemas.Tables.Places.{place_in}
 use Rattle.cedar_types.specs.Schemas.{has_repeat}
 
--- what has a place is there
+-- A place for a test exists exactly if an element passes
 pub any_placed : {X : Type 0} (p : X → Bool) (xs : List X) → is_some (place_in p xs) ≡ list_any p xs
 any_placed p [] = refl
 any_placed p (x ∷ xs) =
@@ -28,7 +28,7 @@ any_placed p (x ∷ xs) =
     mapped None = refl
     mapped (Some n) = refl
 
--- what stands at the place is the first that passes
+-- The element at the place is the first that passes
 pub found_at : {X : Type 0} (p : X → Bool) (xs : List X) (i : ℕ) → place_in p xs ≡ Some i → find p xs ≡ slice_get xs i
 found_at p [] i e = cc
 found_at p (x ∷ xs) i e = along (p x) (place_in p xs) (λ n h. found_at p xs n h) e
@@ -39,7 +39,7 @@ found_at p (x ∷ xs) i e = along (p x) (place_in p xs) (λ n h. found_at p xs n
     along false (Some n) h e = let at : suc n ≡ i = cc in h n refl ∙ ap (slice_get (x ∷ xs)) at
     along false None h e = cc
 
--- nothing passes where there is no place
+-- No element passes if there is no place
 pub found_nowhere : {X : Type 0} (p : X → Bool) (xs : List X) → place_in p xs ≡ None → find p xs ≡ None
 found_nowhere p [] e = refl
 found_nowhere p (x ∷ xs) e = along (p x) (place_in p xs) (found_nowhere p xs) e
@@ -50,7 +50,7 @@ found_nowhere p (x ∷ xs) e = along (p x) (place_in p xs) (found_nowhere p xs) 
     along false (Some n) h e = cc
     along false None h e = h refl
 
--- the first that passes, seen through f
+-- The first element whose image under f passes is the first that passes after mapping
 pub find_mapped : {X Y : Type 0} (f : X → Y) (p : Y → Bool) (xs : List X) → option_map f (find (λ x. p (f x)) xs) ≡ find p (map f xs)
 find_mapped f p [] = refl
 find_mapped f p (x ∷ xs) =
@@ -63,20 +63,20 @@ any_mapped f p (x ∷ xs) = ap (λ b. p (f x) || b) (any_mapped f p xs)
 
 -- ---- by names
 
--- a test that decides equality asks the same both ways
+-- A test that decides equality is symmetric
 pub decided_symm : {K : Type 0} (same : K → K → Bool) → ((a b : K) → Decides (same a b) (a ≡ b)) → (a b : K) → same a b ≡ same b a
 decided_symm same decides a b =
     same_from_decides (same a b) (same b a) (decides a b) (Decides-like (same b a) sym sym (decides b a))
 
--- entries whose order ties the names that are the same are asked by name
+-- A look-up under the order of names is a look-up by key
 pub asked_by_name : {N K V : Type 0} (cmp : N → N → Ordering) (eq : N → N → Bool) (same : K → K → Bool) (key : N → K)
     → ((a b : N) → eq a b ≡ is_eq (cmp a b)) → ((a b : N) → eq a b ≡ same (key a) (key b)) → (q : N) (es : List (N × V))
     → lookup (λ n. is_eq (cmp q n)) es ≡ lookup (λ n. same (key q) (key n)) es
 asked_by_name cmp eq same key ties equal q es = ap (λ test. lookup test es) (λ i n. (sym (ties q n) ∙ equal q n) i)
 
--- ---- what is found among the first n elements
+-- ---- look-ups among the first n elements
 
--- what stands at an earlier place
+-- The element at a place before n is found among the first n elements
 found_before : {X : Type 0} (p : X → Bool) (xs : List X) (i n : ℕ) → place_in p xs ≡ Some i → i < n
     → find p (take n xs) ≡ slice_get xs i
 found_before p [] i n e l = cc
@@ -89,7 +89,7 @@ found_before p (x ∷ xs) i (suc n) e l = along (p x) (place_in p xs) (λ j h k.
     along false (Some j) h e = let at : suc j ≡ i = cc in h j refl (omega (arith, at, l)) ∙ ap (slice_get (x ∷ xs)) at
     along false None h e = cc
 
--- nothing where the first that passes has a later place
+-- Nothing is found among the first n elements if the place is n or later
 found_later : {X : Type 0} (p : X → Bool) (xs : List X) (i n : ℕ) → place_in p xs ≡ Some i → n ≤ i
     → find p (take n xs) ≡ None
 found_later p [] i n e l = cc
@@ -102,7 +102,7 @@ found_later p (x ∷ xs) i (suc n) e l = along (p x) (place_in p xs) (λ j h k. 
     along false (Some j) h e = let at : suc j ≡ i = cc in h j refl (omega (arith, at, l))
     along false None h e = cc
 
--- nothing where none passes
+-- Nothing is found if no element passes
 found_never : {X : Type 0} (p : X → Bool) (xs : List X) (n : ℕ) → place_in p xs ≡ None → find p (take n xs) ≡ None
 found_never p [] zero e = refl
 found_never p [] (suc n) e = refl
@@ -120,7 +120,7 @@ first_mapped : {X Y : Type 0} (f : X → Y) (p : Y → Bool) (xs : List X) (n : 
 first_mapped f p xs n o e =
     ap (option_map f) (sym e) ∙ find_mapped f p (take n xs) ∙ ap (find p) (sym (take-map f n xs))
 
--- the same, seen through f
+-- The images under f of the three cases above
 pub mapped_before : {X Y : Type 0} (f : X → Y) (p : Y → Bool) (xs : List X) (i n : ℕ)
     → Some i ≡ place_in (λ x. p (f x)) xs → i < n → option_map f (slice_get xs i) ≡ find p (take n (map f xs))
 mapped_before f p xs i n e l = first_mapped f p xs n (slice_get xs i) (found_before (λ x. p (f x)) xs i n (sym e) l)
@@ -135,7 +135,7 @@ mapped_never f p xs n e = first_mapped f p xs n None (found_never (λ x. p (f x)
 
 -- ---- one more element
 
--- one more at the end
+-- The place of a test in a list with one more element at the end
 pub place_push : {X : Type 0} (p : X → Bool) (xs : List X) (y : X)
     → place_in p (xs ++ y ∷ []) ≡ option_or (place_in p xs) (cond (p y) (Some (length xs)) None)
 place_push p [] y = refl
@@ -147,7 +147,7 @@ place_push p (x ∷ xs) y = elim (p x) as (λ b. cond b (Some 0) (option_map suc
     after None true = refl
     after None false = refl
 
--- an entry for the next declaration, whose name was not among those so far, keeps the index
+-- An entry for the next declaration keeps the index, if its name was not among those so far
 pub placed_next : {X B : Type 0} (same : B → B → Bool) (name : X → B) (q k : B) (xs : List X) (x : X) (i : ℕ)
     (old new : Option ℕ) → ((a b : B) → Decides (same a b) (a ≡ b)) → k ≡ name x
     → new ≡ cond (same k q) (Some i) old → old ≡ place_in (λ x. same q (name x)) xs → (same k q ≡ true → old ≡ None)
@@ -175,7 +175,7 @@ placed_next same name q k xs x i old new dec named updated placed absent at =
 
 -- ---- repeats
 
--- some of the first elements repeat: some of all
+-- Repeats among the first elements are repeats among all
 pub repeat_among : {X : Type 0} (same : X → X → Bool) (xs ys : List X) → has_repeat same xs ≡ true → has_repeat same (xs ++ ys) ≡ true
 repeat_among same [] ys h = cc
 repeat_among same (x ∷ xs) ys h =
@@ -187,7 +187,7 @@ repeat_among same (x ∷ xs) ys h =
     either true b h k = refl
     either false b h k = ap (λ r. list_any (same x) ys || r) (k h) ∙ or-true (list_any (same x) ys)
 
--- one more at the end repeats where those before do, or one of them is the same
+-- A list with y at the end repeats if it repeated before, or has an element equal to y
 pub repeat_push : {X : Type 0} (same : X → X → Bool) → ((x y : X) → same x y ≡ same y x) → (xs : List X) (y : X)
     → has_repeat same (xs ++ y ∷ []) ≡ (has_repeat same xs || list_any (same y) xs)
 repeat_push same symm [] y = refl
@@ -201,13 +201,13 @@ repeat_push same symm (x ∷ xs) y =
     swapped false true r b = sym (or-true r)
     swapped false false r b = refl
 
--- the first elements and one more, seen through f
+-- The images under f of the first elements and one more
 pub next_mapped : {X Y : Type 0} (f : X → Y) (xs : List X) (i : ℕ) (x : X) → i < length xs → x ≡ get_or xs i x
     → map f (take (i + 1) xs) ≡ map f (take i xs) ++ f x ∷ []
 next_mapped f xs i x below is =
     ap (map f) (take_more xs i x below ∙ ap (λ y. take i xs ++ y ∷ []) (sym is)) ∙ map-append f (take i xs) (x ∷ [])
 
--- a name is met again among the first elements
+-- A name that is already among the first elements repeats
 pub repeat_found : {X Y : Type 0} (f : X → Y) (same : Y → Y → Bool) → ((x y : Y) → same x y ≡ same y x)
     → (xs : List X) (i : ℕ) (x : X) → i < length xs → x ≡ get_or xs i x
     → list_any (λ y. same (f x) (f y)) (take i xs) ≡ true → has_repeat same (map f xs) ≡ true
@@ -219,7 +219,7 @@ repeat_found f same symm xs i x below is h =
     ∙ ap (λ b. has_repeat same (map f (take i xs)) || b) (sym (any_mapped f (same (f x)) (take i xs)) ∙ h)
     ∙ or-true (has_repeat same (map f (take i xs))))
 
--- a new name among the first elements
+-- A new name keeps the first elements without repeats
 pub repeat_not_found : {X Y : Type 0} (f : X → Y) (same : Y → Y → Bool) → ((x y : Y) → same x y ≡ same y x)
     → (xs : List X) (i : ℕ) (x : X) → i < length xs → x ≡ get_or xs i x
     → list_any (λ y. same (f x) (f y)) (take i xs) ≡ false → has_repeat same (map f (take i xs)) ≡ false
@@ -229,7 +229,7 @@ repeat_not_found f same symm xs i x below is h apart =
     ∙ repeat_push same symm (map f (take i xs)) (f x)
     ∙ (λ j. apart j || (sym (any_mapped f (same (f x)) (take i xs)) ∙ h) j)
 
--- what `get` gives
+-- The item that `get` gives is the element at the index
 pub item_at : {X : Type 0} (xs : List X) (i : ℕ) (o : Option (Bor X)) → IsItemAt xs i o → option_map (λ x. x.now) o ≡ slice_get xs i
 item_at xs i None h = sym (slice_get_past xs i h.3)
 item_at xs i (Some x) h = ap Some h.1 ∙ sym (slice_get-get_or xs i x.now h.3.0)

@@ -5,7 +5,7 @@ use Rattle.cedar_types.specs.Capability.{cap_eq, cap_of, capability_eq}
 use Rattle.cedar_types.proofs.Digests.{one_cap, cap_same, by_digest}
 use Rattle.cedar_types.proofs.types.laws.comparisons_of_capabilities.Goals as goal
 
--- the derived `==` compares what capabilities stand for
+-- The derived `==` compares the plain views of capabilities
 compared : (c d : Capability) → capability_eq c d ≡ cap_eq (cap_of c) (cap_of d)
 compared = by_digest
 

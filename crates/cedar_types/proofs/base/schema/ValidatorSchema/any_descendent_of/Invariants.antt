@@ -5,7 +5,7 @@ use Rattle.cedar_types.specs.Schemas.{any_may_be_in}
 use Rattle.cedar_types.specs.Schemas.Contents.{schema_of}
 use Rattle.cedar_types.proofs.base.schema.ValidatorSchema.any_descendent_of.Given as goal
 
--- what is left decides
+-- The remaining left types decide the answer
 abbrev pub invariant-loop-left : goal.invariant-loop-left
 invariant-loop-left l =
     any_may_be_in (schema_of l.self) (map type_of l.left-iterator) (lub_of l.rights)

@@ -6,7 +6,7 @@ use Rattle.cedar_types.specs.Schemas.Listings.{actions_within}
 use Rattle.cedar_types.specs.Schemas.Contents.{schema_of}
 use Rattle.cedar_types.proofs.base.schema.ValidatorSchema.get_actions_in_set.Given as goal
 
--- the actions so far are declared, and they and their descendants are there
+-- The actions so far are declared, and the set has them and their descendants
 abbrev pub invariant-loop-action : goal.invariant-loop-action
 invariant-loop-action l = record {
   known : list_all (declares_action (schema_of l.self).actions) (map uid_of (take l.action-index l.actions)) ≡ true;

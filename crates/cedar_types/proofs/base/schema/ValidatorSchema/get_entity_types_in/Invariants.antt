@@ -3,7 +3,7 @@ use Rattle.cedar_types.specs.Names.{type_of}
 use Rattle.cedar_types.proofs.Schema.Listings.{others}
 use Rattle.cedar_types.proofs.base.schema.ValidatorSchema.get_entity_types_in.Given as goal
 
--- what is there, and then what is left
+-- The listed types, and then the remaining descendants, are all types to list
 abbrev pub invariant-loop-descendant : goal.invariant-loop-descendant
 invariant-loop-descendant l =
     map (λ t. type_of t.now) l.within.items ++ others (type_of l.entity_type) (map type_of l.descendant-iterator)

@@ -6,7 +6,7 @@ use Rattle.cedar_types.specs.Schemas.{may_be_in}
 use Rattle.cedar_types.specs.Schemas.Contents.{schema_of}
 use Rattle.cedar_types.proofs.base.schema.ValidatorSchema.may_be_in_any.Given as goal
 
--- what is left decides
+-- The remaining right types decide the answer
 abbrev pub invariant-loop-right : goal.invariant-loop-right
 invariant-loop-right l =
     list_any (may_be_in (schema_of l.self) (type_of l.left)) (map type_of l.right-iterator)

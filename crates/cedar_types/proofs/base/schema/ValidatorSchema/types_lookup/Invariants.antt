@@ -5,7 +5,7 @@ use Rattle.cedar_types.specs.Types.Lookups.{attribute_view, declared_attribute, 
 use Rattle.cedar_types.specs.Schemas.Contents.{schema_of}
 use Rattle.cedar_types.proofs.base.schema.ValidatorSchema.types_lookup.Given as goal
 
--- what was found, joined with what the types that are left declare
+-- The attribute so far, joined with the declarations of the remaining types, is the answer
 abbrev pub invariant-loop-entity_type : goal.invariant-loop-entity_type
 invariant-loop-entity_type l =
     fold (λ found q. joined_attribute found (declared_attribute (schema_of l.self).types (text_of l.attr) q))

@@ -7,7 +7,7 @@ use Rattle.cedar_types.specs.Types.Lookups.{declared_attributes, types_attribute
 use Rattle.cedar_types.specs.Schemas.Contents.{schema_of}
 use Rattle.cedar_types.proofs.base.schema.attributes.types_attributes.Given as goal
 
--- what was found, joined with what the types that are left declare
+-- The attributes so far, joined with those of the remaining types, are the answer
 abbrev pub invariant-loop-entity_type : goal.invariant-loop-entity_type
 invariant-loop-entity_type l =
     fold (λ found q. common_attrs Permissive found (declared_attributes (schema_of l.schema).types q))

@@ -3,7 +3,7 @@ use Rattle.std.specs.List.{list_all}
 use Rattle.cedar_types.specs.Schemas.Closures.{has_all, is_closed, below_name}
 use Rattle.cedar_types.proofs.base.schema.closures.are_all_closed.Given as goal
 
--- what is left decides
+-- The remaining names decide the answer
 abbrev pub invariant-loop-name : goal.invariant-loop-name
 invariant-loop-name g l =
     let d = g.D.Declared in

@@ -3,7 +3,7 @@ use Rattle.std.specs.List.{list_all}
 use Rattle.cedar_types.specs.Schemas.Closures.{are_kept, below_name}
 use Rattle.cedar_types.proofs.base.schema.closures.are_closed.Given as goal
 
--- those so far are kept
+-- The sets so far are kept
 abbrev pub invariant-loop-place : goal.invariant-loop-place
 invariant-loop-place g l =
     let d = g.D.Declared in

@@ -2,7 +2,7 @@ use Rattle.std.proofs.Common.{◌≡◌, true, IfSome, map, Some}
 use Rattle.cedar_types.specs.Schemas.Closures.{has_all, IsBelow}
 use Rattle.cedar_types.proofs.base.schema.closures.widest_below.Given as goal
 
--- what was found is below, and what is left is among the descendants
+-- The declaration found is below, and the remaining names are among the descendants
 abbrev pub invariant-loop-name : goal.invariant-loop-name
 invariant-loop-name g l = record {
   found :

@@ -6,7 +6,7 @@ use Rattle.cedar_types.specs.Schemas.Declarations.{application}
 use Rattle.cedar_types.specs.Environments.{declared_env, principal_environments, action_environments}
 use Rattle.cedar_types.proofs.base.schema.environments.add_action.Given as goal
 
--- what is there, and then those of the principal types that are left
+-- The environments so far, and those of the remaining principal types, are all environments
 abbrev pub invariant-loop-principal : goal.invariant-loop-principal
 invariant-loop-principal l =
     map declared_env l.environments.items ++ flat_map (principal_environments (uid_of l.action)

@@ -4,7 +4,7 @@ use Rattle.cedar_types.specs.Types.{types_of, ty_of}
 use Rattle.cedar_types.specs.Environments.{declared_env, principal_environments}
 use Rattle.cedar_types.proofs.base.schema.environments.add_principal.Given as goal
 
--- what is there, and then those of the resource types that are left
+-- The environments so far, and those of the remaining resource types, are all environments
 abbrev pub invariant-loop-resource : goal.invariant-loop-resource
 invariant-loop-resource l =
     map declared_env l.environments.items

@@ -13,7 +13,7 @@ use Rattle.cedar_types.specs.Schemas.Tables.{types_in, actions_in, schema_in}
 use Rattle.cedar_types.proofs.Schema.Faults.{seen_fault, fault_seen}
 use Rattle.cedar_types.proofs.base.schema.faults.find_fault.Goals as goal
 
--- the fault that was seen in two tables is that of what they declare
+-- The fault seen in two tables is the later fault of their declarations
 told : {d o e p d' o' e' p' : _} (types : Table ValidatorEntityType EntityType d o e p)
     (actions : Table ValidatorActionId EntityUID d' o' e' p') (fault : Option SchemaError)
     → fault ≡ seen_fault types.declared.items actions.declared.items (types_in types) (actions_in actions)

@@ -5,7 +5,7 @@ use Rattle.cedar_types.specs.Schemas.Formed.{application_is_formed}
 use Rattle.cedar_types.specs.Schemas.{DeclaredAction}
 use Rattle.cedar_types.proofs.base.schema.forms.actions_are_formed.Given as goal
 
--- what is left decides
+-- The remaining actions decide the answer
 abbrev pub invariant-loop-action : goal.invariant-loop-action
 invariant-loop-action l =
     list_all (λ (a : DeclaredAction). application_is_formed a.applies_to)

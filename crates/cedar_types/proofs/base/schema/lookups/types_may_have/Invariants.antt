@@ -6,7 +6,7 @@ use Rattle.cedar_types.specs.Types.Lookups.{may_declare}
 use Rattle.cedar_types.specs.Schemas.Contents.{schema_of}
 use Rattle.cedar_types.proofs.base.schema.lookups.types_may_have.Given as goal
 
--- what is left decides
+-- The remaining types decide the answer
 abbrev pub invariant-loop-entity_type : goal.invariant-loop-entity_type
 invariant-loop-entity_type l =
     list_any (may_declare (schema_of l.schema).types (text_of l.attr)) (map type_of l.entity_type-iterator)

@@ -4,7 +4,7 @@ use Rattle.cedar_types.specs.Names.{type_of, uid_of, path_eq}
 use Rattle.cedar_types.specs.Schemas.Declarations.{uids_of}
 use Rattle.cedar_types.proofs.base.schema.memberships.has_action_of.Given as goal
 
--- what is left decides
+-- The remaining actions decide the answer
 abbrev pub invariant-loop-action : goal.invariant-loop-action
 invariant-loop-action l =
     list_any (λ d. path_eq (type_of l.name) d.entity_type) (map uid_of l.action-iterator)

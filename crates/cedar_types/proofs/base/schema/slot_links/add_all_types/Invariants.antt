@@ -4,7 +4,7 @@ use Rattle.cedar_types.specs.Environments.Linking.{type_names}
 use Rattle.cedar_types.specs.Environments.LinkViews.{link_of}
 use Rattle.cedar_types.proofs.base.schema.slot_links.add_all_types.Given as goal
 
--- what was added, and the types that are left
+-- The links so far, and the remaining types, are all links
 abbrev pub invariant-loop-declared : goal.invariant-loop-declared
 invariant-loop-declared l =
     map link_of l.links.items ++ map (λ p. Some p) (type_names (map declared_type (drop l.declared-index l.declared-items)))

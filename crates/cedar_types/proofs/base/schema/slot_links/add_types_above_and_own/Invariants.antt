@@ -5,7 +5,7 @@ use Rattle.cedar_types.specs.Environments.LinkViews.{link_of}
 use Rattle.cedar_types.specs.Names.{type_of}
 use Rattle.cedar_types.proofs.base.schema.slot_links.add_types_above_and_own.Given as goal
 
--- what was added, and those above among the types that are left
+-- The links so far, and the types above among the remaining types, are all links
 abbrev pub invariant-loop-declared : goal.invariant-loop-declared
 invariant-loop-declared l =
     map link_of l.links.items

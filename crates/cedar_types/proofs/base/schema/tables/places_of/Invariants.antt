@@ -2,7 +2,7 @@ use Rattle.std.proofs.Common.{◌≡◌, false, take, map}
 use Rattle.cedar_types.specs.Schemas.Tables.Places.{IsIndex, repeats_name}
 use Rattle.cedar_types.proofs.base.schema.tables.places_of.Given as goal
 
--- the declarations so far have their places, and no name repeats among them
+-- The declarations so far have their places, and no name repeats among them
 abbrev pub invariant-loop-place : goal.invariant-loop-place
 invariant-loop-place g l = record {
   placed :

@@ -4,7 +4,7 @@ use Rattle.cedar_types.specs.Expressions.Makers.{with_attrs}
 use Rattle.cedar_types.proofs.Attributes.Listed.{shown}
 use Rattle.cedar_types.proofs.base.types.Attributes.from_list.Given as goal
 
--- what is left goes to its place among what is there
+-- The remaining attributes, put at their places among those so far, are the whole
 abbrev pub invariant-loop-key : goal.invariant-loop-key
 invariant-loop-key l =
     with_attrs (map (λ e. (e.0.now, shown e.1)) l.key-iterator.rest.items) (entries_of l.attrs.entries)

@@ -4,7 +4,7 @@ use Rattle.cedar_types.specs.Types.Bounds.{both_attrs, common_attrs}
 use Rattle.cedar_types.proofs.Attributes.Records.{Ascends}
 use Rattle.cedar_types.proofs.base.types.bounds.+bound.Given as goal
 
--- the attributes so far, and then the bound of what is left, are the whole bound
+-- The attributes so far, and then the bound of the remaining, are the whole bound
 abbrev pub invariant-both_attributes-loop-key : goal.invariant-both_attributes-loop-key
 invariant-both_attributes-loop-key l = record {
   told : option_map (join_attrs (entries_of l.all.entries))

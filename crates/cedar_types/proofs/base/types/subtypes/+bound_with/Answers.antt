@@ -10,18 +10,18 @@ use Rattle.cedar_types.specs.declared.base.types.ValidationMode.{ValidationMode}
 use Rattle.cedar_types.proofs.Bounds.Steps.{set_is}
 use Rattle.cedar_types.proofs.base.types.subtypes.+bound_with.Goals as goal
 
--- what was owned, or else was copied, is the same type
+-- An owned or copied type has the plain type of its original
 owned_type : (s t : CedarType) → (t ≡ s) ⊎ (ty_of t ≡ ty_of s) → ty_of t ≡ ty_of s
 owned_type s t (inl e) = ap ty_of e
 owned_type s t (inr e) = e
 
--- the type of a set, by that of its members
+-- The type of a set, by the type of its members
 set_type : (t : CedarType) (e : Rc CedarType Global) → t ≡ Set e → ty_of t ≡ TSet (ty_of e.value)
 set_type t e h =
     ap ty_of (h ∙ sym (rolls-Set e))
     ∙ fold-roll-CedarType Ty (Ty × Bool) Attrs ty_step attribute_step attributes_step (layer.Set e)
 
--- two sets, by the bound of their members
+-- The bound of two sets, by the bound of their members
 by_members : (m : ValidationMode) (s t s1 t1 u v : Ty) → s ≡ TSet s1 → t ≡ TSet t1 → u ≡ s1 → v ≡ t1
     → option_map TSet (lub m u v) ≡ lub m s t
 by_members m s t s1 t1 u v e f g h =

@@ -3,7 +3,7 @@ use Rattle.cedar_types.specs.Types.{ty_of}
 use Rattle.cedar_types.specs.Types.Bounds.{fold_lub}
 use Rattle.cedar_types.proofs.base.types.subtypes.fold_bound.Given as goal
 
--- the bound so far, with what is left, has the bound of all
+-- The bound so far and the remaining types have the bound of all
 abbrev pub invariant-loop-ty : goal.invariant-loop-ty
 invariant-loop-ty l =
     fold_lub l.mode (ty_of l.bound) (map (λ t. ty_of t.now) (drop l.ty-index l.rest))

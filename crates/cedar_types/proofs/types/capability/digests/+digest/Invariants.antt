@@ -3,7 +3,7 @@ use Rattle.cedar_types.specs.Capability.Digest.{trees_digest, fields_digest}
 use Rattle.cedar_types.specs.Expressions.View.{shape, trees_of, fields_of}
 use Rattle.cedar_types.proofs.types.capability.digests.+digest.Given as goal
 
--- what is left decides
+-- The digest so far and the remaining elements give the digest of all
 abbrev pub invariant-list_digest-loop-e : goal.invariant-list_digest-loop-e
 invariant-list_digest-loop-e l =
     trees_digest l.digest (trees_of (map shape (drop l.e-index l.e-items)))

@@ -3,7 +3,7 @@ use Rattle.std.specs.List.{AllWithin}
 use Rattle.cedar_types.specs.Names.{path_of, path_cmp}
 use Rattle.cedar_types.proofs.base.expressions.extensions.ExtensionSchemas.func_type.Given as goal
 
--- the function is not among those before `low`, nor among those from `high` on
+-- The functions before `low` are below the name, and those from `high` on are above it
 abbrev pub invariant-loop-low : goal.invariant-loop-low
 invariant-loop-low g l =
     (l.low ≤ l.high)

@@ -52,7 +52,7 @@ returns-then-not-neighbours_differ-clause-refused g c = λ meaning.
     ∙ ap (λ xs. has_two_alike (map (function_of meaning) xs)) (sym c.deref-3.ensures.value)
     ∙ neighbours_alike meaning c.deref-3.result.now pair.0 pair.1 pair.2)
 
--- the functions were put in ascending order
+-- The sorted functions ascend by name
 rising : (g : Over) (c : Else-not-neighbours_differ g)
     → IsSortedBy (λ f h. is_lt (path_cmp (path_of f.name) (path_of h.name))) c.sort_unstable_by.new.self.items
 rising g c =
@@ -61,7 +61,7 @@ rising g c =
     (answers_always _ _ _ (λ f a r h called. let is : r ≡ name_cmp a.0.now.name a.1.0.now.name = search rules in
     ap is_lt (is ∙ name_cmp_is a.0.now.name a.1.0.now.name)))
 
--- no two of them are alike where no neighbours are
+-- No two functions have one name, if neighbours differ
 none_alike : (g : Over) (c : Else-not-neighbours_differ g) (meaning : _)
     → has_two_alike (map (function_of meaning) c.sort_unstable_by.new.self.items) ≡ false
 none_alike g c meaning =
@@ -69,7 +69,7 @@ none_alike g c meaning =
     (subst (λ xs. AllAdjacentBelow (λ f h. not (path_eq (path_of f.name) (path_of h.name)) ≡ true) xs (length xs))
     c.deref-3.ensures.value c.if-not-neighbours_differ.ensures)
 
--- then the functions that were handed in have no fault
+-- The functions that the caller passed have no fault
 no_fault : (g : Over) (c : Else-not-neighbours_differ g) (meaning : _)
     → table_fault (map (function_of meaning) c.args.functions.items) ≡ None
 no_fault g c meaning =

@@ -3,7 +3,7 @@ use Rattle.std.specs.List.{list_any}
 use Rattle.cedar_types.specs.Extensions.Functions.{function_of, has_bad_return}
 use Rattle.cedar_types.proofs.base.expressions.extensions.faults.has_bad_return.Given as goal
 
--- what is left decides
+-- The remaining functions decide the answer
 abbrev pub invariant-loop-function : goal.invariant-loop-function
 invariant-loop-function g l =
     list_any (λ f. has_bad_return (function_of (λ check args. None) f)) (drop l.function-index l.functions)
