@@ -1,4 +1,4 @@
-//! The data that typing stands on, one folder for each subject.
+//! Data that typing uses, one module for each subject.
 mod errors;
 mod escapes;
 mod expressions;

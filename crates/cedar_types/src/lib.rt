@@ -1,4 +1,4 @@
-//! What a policy, a type, a schema and an error are made of.
+//! Data types of the typechecker: policies, types, schemas and errors.
 #![tactic(auto)]
 
 pub mod base;

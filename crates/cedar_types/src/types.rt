@@ -1,4 +1,4 @@
-//! What typing knows of a request and of what is there.
+//! Typing's knowledge of a request and of the members that are present.
 pub mod capability;
 mod entries;
 pub mod laws;

@@ -1,4 +1,4 @@
-// What validation finds in a policy, one file for each subject.
+// Errors and warnings of validation, one file for each subject.
 mod access_errors;
 mod call_errors;
 mod level_errors;

@@ -1,18 +1,21 @@
-// Texts of strangers, as they are shown to people. No contract says how they are shown.
+// Displays of untrusted texts. No contract states the text that they write.
 use std::fmt;
 
-/// A name, an attribute, an id or a literal, to be shown between quotes or backquotes.
+/// A name, an attribute, an id or a literal, which you show between quotes or backquotes.
 ///
-/// It is shown as `{:?}` shows it, without the quotes around it: control characters, line breaks, double quotes, backslashes,
-/// marks of direction and what has no shape of its own are escaped. A backquote is shown as `\u{60}`, so what is shown ends
-/// neither quotes nor backquotes, and is one line.
+/// `Display` writes the text as `{:?}` does, without the quotes around it: it escapes control
+/// characters, line breaks, double quotes, backslashes, marks of direction and characters without a
+/// shape of their own. It writes a backquote as `\u{60}`. So the output is one line and ends
+/// neither double quotes nor backquotes.
 #[derive(Clone, Copy, Drop)]
 pub struct Escaped<'a>(pub &'a str);
 
-/// A whole text that has quotes and backquotes of its own, as an error's, to be shown on a line of its own.
+/// A whole text with quotes and backquotes of its own, for example an error's, which you show on a
+/// line of its own.
 ///
-/// It is shown as `{:?}` shows it, without the quotes around it, but for quotes and backquotes, which stand as they are. So it is
-/// one line. What the text itself quotes may end its quotes; where that matters, show each name by [`Escaped`].
+/// `Display` writes the text as `{:?}` does, without the quotes around it, but leaves quotes and
+/// backquotes as they are. So the output is one line. A name that the text quotes may end its
+/// quotes; if this matters, you must show each name by [`Escaped`].
 #[derive(Clone, Copy, Drop)]
 pub struct OneLine<'a>(pub &'a str);
 

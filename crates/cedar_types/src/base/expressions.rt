@@ -1,4 +1,4 @@
-// Expressions.
+// Expressions and their forms.
 ghost use Rattle.std.specs.Prelude.{◌≡◌};
 
 pub(crate) mod attr_chains;
@@ -25,7 +25,7 @@ use std::rc::{Rc, RcStr};
 
 /// An expression: its form, and at each node an annotation and a place in the policy's text.
 ///
-/// `Expr` alone has no annotations. Annotations and places count in no comparison.
+/// `Expr` without a type argument has no annotations. Comparisons ignore annotations and places.
 #[cycle(expr)]
 #[derive(Debug)]
 #[derive_where(PartialEq, Eq, PartialOrd, Ord)]
@@ -37,8 +37,8 @@ pub struct Expr<T = ()> {
     pub kind: ExprKind<T>,
 }
 
-// By hand, so that a proof has one call where an expression is dropped: a derived drop stands in it with all forms at each such
-// place.
+// `Drop` is written by hand, so that a proof has one call for each dropped expression: a derived
+// drop would put all forms into the proof at each such place.
 impl<T: Drop> Drop for Expr<T> {
     fn drop(self) {
         let Expr {
@@ -49,7 +49,8 @@ impl<T: Drop> Drop for Expr<T> {
     }
 }
 
-/// The forms of expressions. The branches of an `if` may be shared, and a record is walked in byte order of its keys.
+/// The forms of expressions. Several expressions may share the branches of an `if`, and every walk
+/// of a record is in byte order of its keys.
 #[cycle(expr)]
 #[derive(Drop, Debug)]
 #[derive_where(PartialEq, Eq, PartialOrd, Ord)]
@@ -60,7 +61,7 @@ pub enum ExprKind<T = ()> {
     Var(Var),
     /// `?principal` or `?resource`.
     Slot(SlotId),
-    /// A value that is not known yet, by its name.
+    /// The name of a value that is not known yet.
     Unknown(Name),
     /// `if a then b else c`.
     If {
@@ -95,8 +96,9 @@ pub enum ExprKind<T = ()> {
 }
 
 impl<T: Drop> Expr<T> {
-    /// The form, without the annotation and the place of its node. It takes no memory. An expression has a `drop` of its own, so
-    /// it is by this call that it can be taken apart by value.
+    /// The form of the expression, without the annotation and the place of its node. The call
+    /// allocates no memory. You must use it to take an expression apart by value, because `Expr`
+    /// has a `drop` of its own.
     pub fn into_expr_kind(self) -> ExprKind<T>
         ensures { result ≡ self.kind }
     {

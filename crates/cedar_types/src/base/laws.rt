@@ -1,4 +1,4 @@
-//! Laws of the data, each on a function that does nothing.
+//! Laws of the data, each the contract of a function that does nothing.
 ghost use Rattle.std.specs.Prelude.{◌≡◌, IsTrue, ◌↔◌, None};
 ghost use Rattle.std.specs.Cmp.{IsTotalOrder};
 ghost use Rattle.std.specs.Ordering.{is_eq};
@@ -15,22 +15,23 @@ ghost use Rattle.cedar_types.specs.declared.base.names.entities.EntityUID.{Entit
 
 use crate::base::expressions::extensions::ExtensionSchemas;
 
-/// Names, entity types and ids are equal exactly where their texts are, wherever they stand.
+/// Names, entity types and entity ids are equal exactly if their texts are, whatever their places.
 pub fn equality_of_names()
     ensures names { (x y : Name) → IsTrue (name_eq x y) ↔ (path_of x ≡ path_of y) }
     ensures types { (x y : EntityType) → IsTrue (entity_type_eq x y) ↔ (type_of x ≡ type_of y) }
     ensures ids { (x y : EntityUID) → IsTrue (entity_uid_eq x y) ↔ (uid_of x ≡ uid_of y) }
 {}
 
-/// Names are ordered by the parts of their path and then by the last part, ids by their type and then by the eid,
-/// wherever they stand.
+/// Names and entity types compare by the parts of their path and then by the last part, entity ids
+/// by their type and then by the eid, whatever their places.
 pub fn order_of_names()
     ensures names { (x y : Name) → name_cmp x y ≡ path_cmp (path_of x) (path_of y) }
     ensures types { (x y : EntityType) → entity_type_cmp x y ≡ path_cmp (type_of x) (type_of y) }
     ensures ids { (x y : EntityUID) → entity_uid_cmp x y ≡ uid_cmp (uid_of x) (uid_of y) }
 {}
 
-/// The order of errors is total, and calls equal exactly those that are one finding. Which order it is may change.
+/// The order of errors is total, and two errors compare as `Equal` exactly if they are one finding.
+/// A later version may order errors differently.
 pub fn order_of_findings()
     ensures total { IsTotalOrder error_cmp }
     ensures ties { (x y : ValidationError)

@@ -3,7 +3,8 @@ ghost use Rattle.std.specs.Prelude.{◌≡◌};
 
 use std::fmt;
 
-/// How many entity dereferences, one after another, are allowed or needed. It is shown as its digits.
+/// The number of entity dereferences, one after another, that are allowed or needed. `Display`
+/// writes its digits.
 #[derive(Clone, Copy, PartialEq, Eq, PartialOrd, Ord, Hash, Debug)]
 pub struct EntityDerefLevel {
     pub level: u32,

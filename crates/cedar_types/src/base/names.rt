@@ -1,4 +1,4 @@
-// Names.
+// Names: a path and a last part.
 ghost use Rattle.std.specs.Prelude.{◌≡◌, [], IfOk, map};
 ghost use Rattle.cedar_types.specs.Names.{text_of, path_of};
 
@@ -10,7 +10,8 @@ use std::alloc::{AllocError, Global};
 use std::fmt;
 use std::rc::RcStr;
 
-/// A name: the parts of its path and its last part, any texts. It is shown with `::` between the parts.
+/// A name: the parts of its path and its last part, any texts. `Display` writes `::` between the
+/// parts.
 #[derive(PartialEq, Eq, PartialOrd, Ord, Hash, Debug, Drop)]
 pub struct Name {
     pub path: Vec<RcStr>,
@@ -18,7 +19,7 @@ pub struct Name {
 }
 
 impl Name {
-    /// The name of this last part, without a path.
+    /// The name with this last part and without a path.
     pub fn unqualified_name(alloc: Global, basename: &str) -> Result<Name, AllocError>
         ensures { IfOk result (λ n. path_of n ≡ record { path = []; basename = basename.now }) }
     {
@@ -28,7 +29,7 @@ impl Name {
         })
     }
 
-    /// The name of this last part, below these parts of a path.
+    /// The name with these parts of a path and this last part.
     pub fn new(alloc: Global, basename: &str, path: &[&str]) -> Result<Name, AllocError>
         ensures { IfOk result (λ n. path_of n ≡ record {
           path = map (λ s. s.now) path.now;
@@ -60,7 +61,7 @@ impl fmt::Display for Name {
     }
 }
 
-/// A copy of some texts, made by the list's own allocator.
+/// A copy of these texts, which the list's own allocator makes.
 pub(crate) fn copy_texts(texts: &Vec<RcStr>) -> Result<Vec<RcStr>, AllocError>
     ensures { IfOk result (λ v. map text_of v.items ≡ map text_of texts.now.items) }
 {
@@ -71,7 +72,7 @@ pub(crate) fn copy_texts(texts: &Vec<RcStr>) -> Result<Vec<RcStr>, AllocError>
     Ok(copies)
 }
 
-/// These texts, each on its own.
+/// Owned copies of these texts.
 pub(crate) fn texts_from(alloc: Global, texts: &[&str]) -> Result<Vec<RcStr>, AllocError>
     ensures { IfOk result (λ v. map text_of v.items ≡ map (λ s. s.now) texts.now) }
 {

@@ -1,4 +1,4 @@
-// Schemas: what they declare, without faults.
+// Schemas: declarations without faults.
 ghost use Rattle.std.specs.Prelude.{◌≡◌, true, false, map};
 ghost use Rattle.cedar_types.specs.Schemas.{has_fault};
 ghost use Rattle.cedar_types.specs.Schemas.Formed.{has_formed_types};
@@ -37,8 +37,8 @@ use crate::base::schema::request_environments::UnlinkedRequestEnv;
 use crate::base::schema::tables::{ActionTable, EntityTypeTable};
 use std::alloc::Global;
 
-/// The declarations of a schema, which have no fault, the environments of its actions, and for each of its types the set of it
-/// alone.
+/// A schema without faults: its declarations, the environments of its actions, and for each of its
+/// types the set of this type alone.
 #[derive(Debug, Drop)]
 pub struct ValidatorSchema {
     pub(crate) types: EntityTypeTable,
@@ -58,8 +58,8 @@ impl ValidatorSchema {
     ghost use Rattle.cedar_types.specs.Schemas.Declarations.{declared};
     ghost use Rattle.cedar_types.specs.Schemas.Contents.{schema_of};
 
-    /// The schema of these declarations, or the first of their faults. Where memory is refused, the answer is
-    /// `SchemaError::Memory`, whatever faults there are.
+    /// The schema of these declarations, or the first of their faults. If memory is refused, the
+    /// answer is `SchemaError::Memory`, whatever faults there are.
     pub fn new(
         alloc: Global,
         entity_types: Vec<ValidatorEntityType>,

@@ -1,8 +1,7 @@
 // Templates and policies.
 ghost use Rattle.std.specs.Prelude.{◌≡◌, IfOk, option_map};
-ghost use Rattle.cedar_types.specs.Names.{text_of};
 ghost use Rattle.cedar_types.specs.Expressions.View.{written};
-ghost use Rattle.cedar_types.specs.Templates.{template_of, scope_of, action_scope_of};
+ghost use Rattle.cedar_types.specs.Templates.{template_of, template_with};
 
 mod conditions;
 mod constraint_makers;
@@ -23,8 +22,8 @@ use crate::base::templates::constraints::{
 use std::alloc::{AllocError, Global};
 use std::rc::Rc;
 
-/// A policy whose scope may have slots: an id, a place in the policy's text, three constraints, and the rest of its
-/// condition, if it has one.
+/// A policy whose scope may have slots: an id, a place in the policy's text, three constraints, and
+/// the rest of its condition, if it has one.
 #[derive(Debug, Drop)]
 pub struct Template {
     pub id: PolicyID,
@@ -36,7 +35,7 @@ pub struct Template {
 }
 
 impl Template {
-    /// The template of these parts. It takes no memory.
+    /// The template of these parts. The call allocates no memory.
     pub fn new(
         id: PolicyID,
         loc: Option<Loc>,
@@ -45,14 +44,9 @@ impl Template {
         resource_constraint: ResourceConstraint,
         non_scope_constraints: Option<Expr>,
     ) -> Template
-        ensures { template_of result ≡ record {
-          id = text_of id.text;
-          place = loc;
-          principal = scope_of principal_constraint.constraint;
-          action = action_scope_of action_constraint;
-          resource = scope_of resource_constraint.constraint;
-          rest = option_map written non_scope_constraints;
-        } }
+        ensures { template_of result
+            ≡ template_with id loc principal_constraint action_constraint resource_constraint
+            non_scope_constraints }
     {
         Template {
             id,
@@ -64,7 +58,7 @@ impl Template {
         }
     }
 
-    /// A copy, places included.
+    /// A copy of the template, places included.
     pub fn try_clone(&self, alloc: Global) -> Result<Template, AllocError>
         ensures { IfOk result (λ t. template_of t ≡ template_of self.now) }
     {
@@ -97,7 +91,7 @@ pub(crate) fn copy_rest(alloc: Global, rest: &Option<Expr>) -> Result<Option<Exp
     }
 }
 
-/// A linked policy: a template, and what its slots are bound to.
+/// A linked policy: a template, and the entities that its slots are bound to.
 #[derive(Debug, Drop)]
 pub struct Policy {
     pub template: Rc<Template>,

@@ -1,4 +1,4 @@
-//! Laws of types, each on a function: of bounds and subtypes, of equality and order, of form.
+//! Laws of types, each the contract of a function: bounds and subtypes, equality and order, form.
 ghost use Rattle.std.specs.Prelude.{◌≡◌, IsTrue, ◌↔◌, true};
 ghost use Rattle.std.specs.declared.cmp.Ordering.TheVariants.{Equal};
 ghost use Rattle.cedar_types.specs.Types.{ty_of, lub_of, attributes_of, attr_names, is_well_formed, are_well_formed};
@@ -11,50 +11,50 @@ ghost use Rattle.cedar_types.specs.declared.base.types.entity_sets.EntityLUB.{En
 use crate::base::types::{Attributes, CedarType};
 use std::cmp::Ordering;
 
-/// In each mode the bound of a type with itself is the type.
+/// The bound of a type with itself is the type, in each mode.
 pub fn bound_is_idempotent()
     ensures { BoundIsIdempotent }
 {}
 
-/// In each mode the bound of two types does not depend on their order.
+/// The bound of two types does not depend on their order, in each mode.
 pub fn bound_is_symmetric()
     ensures { BoundIsSymmetric }
 {}
 
-/// In each mode two types are subtypes of their bound.
+/// Two types are subtypes of their bound, in each mode.
 pub fn bound_is_an_upper_bound()
     ensures { BoundIsUpper }
 {}
 
-/// In each mode the bound of well-formed types is well-formed.
+/// The bound of well-formed types is well-formed, in each mode.
 pub fn bound_keeps_form()
     ensures { BoundKeepsForm }
 {}
 
-/// In each mode a type is a subtype of itself.
+/// A type is a subtype of itself, in each mode.
 pub fn subtyping_is_reflexive()
     ensures { SubtypingIsReflexive }
 {}
 
-/// In each mode a subtype of a subtype is a subtype.
+/// A subtype of a subtype is a subtype, in each mode.
 pub fn subtyping_is_transitive()
     ensures { SubtypingIsTransitive }
 {}
 
-/// In each mode a type is a subtype of another exactly where their bound is the other.
+/// A type is a subtype of another exactly if their bound is the other, in each mode.
 pub fn subtype_is_by_bound()
     ensures { SubtypeIsByBound }
 {}
 
-/// Two types compare equal exactly where they are the same plain type.
+/// Whether two types are equal: exactly if they are one plain type.
 pub fn equal_types(ty0: &CedarType, ty1: &CedarType) -> bool
     ensures { IsTrue result ↔ (ty_of ty0.now ≡ ty_of ty1.now) }
 {
     *ty0 == *ty1
 }
 
-/// Types are ordered by their kind and then by their parts, and two are equal in that order exactly where they are the
-/// same plain type.
+/// The order of two types: by their kind and then by their parts. The answer is `Equal` exactly if
+/// they are one plain type.
 pub fn compare_types(ty0: &CedarType, ty1: &CedarType) -> Ordering
     ensures order { result ≡ ty_cmp (ty_of ty0.now) (ty_of ty1.now) }
     ensures equality { (result ≡ Equal) ↔ (ty_of ty0.now ≡ ty_of ty1.now) }
@@ -62,7 +62,7 @@ pub fn compare_types(ty0: &CedarType, ty1: &CedarType) -> Ordering
     ty0.cmp(ty1)
 }
 
-/// Every type is well-formed: this walks a type to show it, and does nothing else.
+/// Every type is well-formed: the function walks a type to prove it, and does nothing else.
 #[cycle(form)]
 #[tactic(auto, unfolding(crate::specs::Types::lub_of))]
 pub fn types_are_well_formed(ty: &CedarType)
@@ -98,8 +98,8 @@ pub fn entity_sets_are_well_formed()
     ensures ascend { (s : EntityLUB) → paths_ascending (lub_of s) ≡ true }
 {}
 
-/// The attributes of a type have of each name what is looked up by it, by a schema whose types are well-formed, as those of
-/// every schema of the program are.
+/// The listed attributes of a type hold, for each name, the attribute that a lookup of this name
+/// finds, by a schema whose types are well-formed, as the types of every schema of the program are.
 pub fn listed_attributes()
     ensures { AttributesAreLookedUp }
 {}

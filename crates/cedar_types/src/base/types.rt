@@ -1,4 +1,4 @@
-// The types that expressions, attributes and tags have.
+// Types of expressions, attributes and tags.
 ghost use Rattle.std.specs.Prelude.{◌≡◌};
 
 mod bounds;
@@ -19,22 +19,23 @@ use std::alloc::AllocError;
 use std::collections::BTreeMap;
 use std::rc::{Rc, RcStr};
 
-/// How a policy is typed.
+/// The mode in which the typechecker types a policy.
 #[derive(Clone, Copy, PartialEq, Eq, Debug)]
 pub enum ValidationMode {
-    /// Types that meet have to agree: entity types do not unite, and no key of a record is dropped. In this mode and in
-    /// Permissive soundness is proved.
+    /// Types that meet must agree: entity types do not unite, and no key of a record is dropped.
+    /// Soundness is proved for this mode and for Permissive.
     Strict,
     /// Entity types that meet unite, and records that meet keep the keys that they share.
     Permissive,
-    /// As in Permissive, by a schema that need not declare everything: an undeclared action may be requested too.
+    /// Types meet as in Permissive, by a schema that need not declare everything: a request may
+    /// also name an undeclared action.
     Partial,
 }
 
-/// Which truth values a Boolean may have.
+/// The truth values that a Boolean may have.
 #[derive(Clone, Copy, PartialEq, Eq, PartialOrd, Ord, Hash, Debug)]
 pub enum BoolType {
-    /// Either of them.
+    /// Either truth value.
     AnyBool,
     /// `true` alone.
     True,
@@ -42,25 +43,25 @@ pub enum BoolType {
     False,
 }
 
-/// Which entities a value may be.
+/// The entities that a value may be.
 #[derive(PartialEq, Eq, PartialOrd, Ord, Hash, Debug, Drop)]
 pub enum EntityKind {
-    /// One of some types.
+    /// An entity of one of some types.
     Entity(EntityLUB),
-    /// One of any type.
+    /// An entity of any type.
     AnyEntity,
 }
 
 /// Whether a record may have attributes that its type does not name.
 #[derive(Clone, Copy, PartialEq, Eq, PartialOrd, Ord, Hash, Debug)]
 pub enum OpenTag {
-    /// It may have others.
+    /// The record may have other attributes.
     OpenAttributes,
-    /// It has no others.
+    /// The record has no other attributes.
     ClosedAttributes,
 }
 
-/// An attribute's type, and whether the attribute is always there.
+/// An attribute's type, and whether the attribute is always present.
 #[cycle(types)]
 #[derive(PartialEq, Eq, PartialOrd, Ord, Hash, Debug, Drop)]
 pub struct AttributeType {
@@ -75,11 +76,11 @@ pub struct Attributes {
     pub attrs: Rc<BTreeMap<RcStr, AttributeType>>,
 }
 
-/// A type. The order of types is the order of their kinds here, and within a kind that of its parts.
+/// A type. Types compare by their kinds, in the order given here, and then by their parts.
 #[cycle(types)]
 #[derive(PartialEq, Eq, PartialOrd, Ord, Hash, Debug)]
 pub enum CedarType {
-    /// No value has it.
+    /// The type that no value has.
     Never,
     /// Truth values.
     Bool(BoolType),
@@ -91,7 +92,7 @@ pub enum CedarType {
     Set(Rc<CedarType>),
     /// Sets of anything.
     AnySet,
-    /// Values by key, with these attributes.
+    /// Records: values by key, with these attributes.
     Record {
         attributes: Attributes,
         is_open: OpenTag,
@@ -102,7 +103,7 @@ pub enum CedarType {
     Extension(Rc<Name>),
 }
 
-// By hand, so that a proof has one call where a type is dropped.
+// `Drop` is written by hand, so that a proof has one call for each dropped type.
 impl Drop for CedarType {
     #[cycle(dropped_types)]
     fn drop(self) {
@@ -134,8 +135,8 @@ impl CedarType {
         CedarType::Entity(EntityKind::Entity(types))
     }
 
-    /// The entity types whose entities have this type, or else the type itself. A type has a `drop` of its own, so it is by this
-    /// call that it is taken apart by value.
+    /// The entity types whose entities have this type, or else the type itself. You must use the
+    /// call to take a type apart by value, because `CedarType` has a `drop` of its own.
     pub(crate) fn into_entity_types(self) -> Result<EntityLUB, CedarType>
         ensures types { IfOk result (λ s. ty_of self ≡ TEntity (lub_of s)) }
         ensures other { IfErr result (λ t. t ≡ self) }
@@ -146,7 +147,7 @@ impl CedarType {
         }
     }
 
-    /// The type of the members, if this is a set's type that names one, or else the type itself.
+    /// The type of the members, if the type is a set's and names one, or else the type itself.
     pub(crate) fn into_element(self) -> Result<Rc<CedarType>, CedarType>
         ensures element { IfOk result (λ t. ty_of self ≡ TSet (ty_of t.value)) }
         ensures other { IfErr result (λ t. t ≡ self) }
@@ -158,10 +159,11 @@ impl CedarType {
     }
 }
 
-/// The short name of a type.
+/// Short name of `CedarType`.
 pub type Type = CedarType;
 
-/// What a request is about, without its values.
+/// A request without its values: the type of its principal, its action, and the type of its
+/// resource.
 #[derive(PartialEq, Eq, Debug, Drop)]
 pub struct RequestType {
     pub principal: EntityType,

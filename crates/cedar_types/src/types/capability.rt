@@ -1,4 +1,4 @@
-//! Capabilities: what is known to be there.
+//! Capabilities: attributes and tags that typing knows to be present.
 ghost use Rattle.std.specs.Prelude.{◌≡◌, IfOk, OnOk, OnErr};
 
 mod accesses;
@@ -35,7 +35,7 @@ impl<'a> CapabilitySet<'a> {
         }
     }
 
-    /// The set of this one.
+    /// The set of `c` alone. If memory is refused, the answer is an `AllocError`.
     pub fn singleton(alloc: Global, c: Capability<'a>) -> Result<Self, AllocError>
         ensures { IfOk result (λ r. HasJust (cap_of c.entry) (caps r)) }
     {
@@ -44,7 +44,7 @@ impl<'a> CapabilitySet<'a> {
         Ok(CapabilitySet { set })
     }
 
-    /// Whether it is in the set.
+    /// Whether `c` is in the set.
     pub fn contains(&self, c: &Capability<'a>) -> bool
         ensures { result ≡ caps self.now (cap_of c.now) }
     {
@@ -58,7 +58,8 @@ impl<'a> CapabilitySet<'a> {
         self.set.as_slice()
     }
 
-    /// Adds a capability. Where memory is refused, the answer is an `AllocError`, and the set is as it was.
+    /// Adds a capability. If memory is refused, the answer is an `AllocError`, and the set stays as
+    /// it was.
     pub fn insert(&mut self, c: Capability<'a>) -> Result<(), AllocError>
         ensures added { OnOk result (AddsJust (cap_of c.entry) (caps self.old) (caps self.new)) }
         ensures kept { OnErr result (IsSame (caps self.old) (caps self.new)) }
@@ -66,7 +67,7 @@ impl<'a> CapabilitySet<'a> {
         self.set.insert(c)
     }
 
-    /// A copy.
+    /// A copy of the set. If memory is refused, the answer is an `AllocError`.
     pub fn try_clone(&self, alloc: Global) -> Result<Self, AllocError>
         ensures { IfOk result (λ r. IsSame (caps self.now) (caps r)) }
     {
@@ -74,7 +75,8 @@ impl<'a> CapabilitySet<'a> {
         Ok(CapabilitySet { set })
     }
 
-    /// What either set has.
+    /// The capabilities of either set, as copies. If memory is refused, the answer is an
+    /// `AllocError`.
     pub fn union(&self, alloc: Global, other: &Self) -> Result<Self, AllocError>
         ensures { IfOk result (λ r. IsUnionOf (caps self.now) (caps other.now) (caps r)) }
     {
@@ -82,7 +84,8 @@ impl<'a> CapabilitySet<'a> {
         Ok(CapabilitySet { set })
     }
 
-    /// What either set has, without a copy: both end in it. Where memory is refused, the answer is an `AllocError`.
+    /// The capabilities of either set, without a copy: the call consumes both. If memory is
+    /// refused, the answer is an `AllocError`.
     pub fn join(self, other: Self) -> Result<Self, AllocError>
         ensures { IfOk result (λ r. IsUnionOf (caps self.entry) (caps other.entry) (caps r)) }
     {
@@ -90,7 +93,8 @@ impl<'a> CapabilitySet<'a> {
         Ok(CapabilitySet { set })
     }
 
-    /// What both sets have.
+    /// The capabilities that both sets have, as copies. If memory is refused, the answer is an
+    /// `AllocError`.
     pub fn intersect(&self, alloc: Global, other: &Self) -> Result<Self, AllocError>
         ensures { IfOk result (λ r. IsIntersectionOf (caps self.now) (caps other.now) (caps r)) }
     {

@@ -1,4 +1,4 @@
-// Vectors in strictly ascending order, as sets. Nothing here knows what is in them: only how two entries compare.
+// Vectors in strictly ascending order, as sets. The functions know only how two entries compare.
 ghost use Rattle.std.specs.Prelude.{◌≡◌, [], IfOk, OnOk, OnErr, MatchOption};
 ghost use Rattle.std.specs.List.{list_any};
 ghost use Rattle.std.specs.List.Sorted.{IsStrictlySortedBy};
@@ -10,16 +10,16 @@ use std::alloc::{AllocError, Global};
 use std::cmp::Ordering;
 use std::collections::{BTreeSet, VecDeque};
 
-/// What such a set holds: entries that are ordered and can be copied.
+/// An entry of a sorted vector: a value that is ordered and can be copied.
 pub trait Entry: Ord {
-    /// A copy, which the order does not tell apart from it.
+    /// A copy, which the order does not tell apart from the entry.
     fn copy(&self, alloc: Global) -> Result<Self, AllocError>
     where
         Self: Sized,
         ensures { IfOk result (λ c. Self.cmp c self.now ≡ Equal) };
 }
 
-/// Whether an entry is there.
+/// Whether `entry` is in the list, by a binary search.
 pub(crate) fn has_entry<T: Ord>(entries: &[T], entry: &T) -> bool
     requires { IsStrictlySortedBy T.cmp entries.now }
     ensures { result ≡ list_any (λ e. is_eq (T.cmp entry.now e)) entries.now }
@@ -27,7 +27,8 @@ pub(crate) fn has_entry<T: Ord>(entries: &[T], entry: &T) -> bool
     entries.binary_search(entry).is_ok()
 }
 
-/// Puts an entry in its place, unless it is there. Where memory is refused, all stays as it was.
+/// Inserts `entry` at its place, unless it is in the list. If memory is refused, the list stays as
+/// it was.
 pub(crate) fn add_entry<T: Ord + Drop>(entries: &mut Vec<T>, entry: T) -> Result<(), AllocError>
     requires { IsStrictlySortedBy T.cmp entries.old.items }
     ensures ascending { IsStrictlySortedBy T.cmp entries.new.items }
@@ -43,7 +44,8 @@ pub(crate) fn add_entry<T: Ord + Drop>(entries: &mut Vec<T>, entry: T) -> Result
     }
 }
 
-/// The first of what is left of two lists, and what is then left of each. What both begin with goes from both.
+/// The smaller of the two first entries, and the rest of each list; `None` if both lists are empty.
+/// If the first entries are equal, both lists lose theirs.
 fn first_of_either<'a, T: Ord>(left: &'a [T], right: &'a [T]) -> Option<(&'a T, &'a [T], &'a [T])>
     ensures { MatchOption result
         ((left.now ≡ []) × (right.now ≡ []))
@@ -61,7 +63,7 @@ fn first_of_either<'a, T: Ord>(left: &'a [T], right: &'a [T]) -> Option<(&'a T, 
     }
 }
 
-/// What either list has. It walks both once.
+/// The entries of either list, as copies. One walk goes over both.
 pub(crate) fn either_of<T: Entry + Drop>(
     alloc: Global,
     left: &[T],
@@ -83,7 +85,8 @@ pub(crate) fn either_of<T: Entry + Drop>(
     Ok(all)
 }
 
-/// Takes the first of what is left of two lists. What both begin with goes from both.
+/// Takes the smaller of the two first entries; `None` if both lists are empty. If the first entries
+/// are equal, both lists lose theirs.
 fn take_first<T: Ord + Drop>(left: &mut VecDeque<T>, right: &mut VecDeque<T>) -> Option<T>
     ensures { MatchOption result
         ((left.old.items ≡ []) × (right.old.items ≡ []))
@@ -103,7 +106,7 @@ fn take_first<T: Ord + Drop>(left: &mut VecDeque<T>, right: &mut VecDeque<T>) ->
     }
 }
 
-/// What either list has: their own entries, without a copy. It walks both once.
+/// The entries of either list, moved without a copy. One walk goes over both.
 pub(crate) fn merged<T: Entry + Drop>(left: Vec<T>, right: Vec<T>) -> Result<Vec<T>, AllocError>
     requires left { IsStrictlySortedBy T.cmp left.items }
     requires right { IsStrictlySortedBy T.cmp right.items }
@@ -120,7 +123,7 @@ pub(crate) fn merged<T: Entry + Drop>(left: Vec<T>, right: Vec<T>) -> Result<Vec
     Ok(all)
 }
 
-/// What both lists have. It walks both once.
+/// The entries that both lists have, as copies. One walk goes over both.
 pub(crate) fn both_of<T: Entry + Drop>(
     alloc: Global,
     left: &[T],

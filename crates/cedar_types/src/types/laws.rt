@@ -9,7 +9,8 @@ ghost use Rattle.cedar_types.specs.declared.types.capability.digested.Capability
 ghost use Rattle.cedar_types.specs.declared.types.request_env.RequestEnv.{RequestEnv};
 ghost use Rattle.cedar_types.specs.declared.types.request_env.RequestEnv.TheVariants.{UndeclaredAction};
 
-/// Capabilities are equal exactly where they say the same of the same shape, and their order calls equal exactly those.
+/// Capabilities are equal exactly if they know one attribute or tag of one shape, and their order
+/// calls equal exactly those.
 pub fn comparisons_of_capabilities()
     ensures equality { (c d : Capability) → IsTrue (capability_eq c d) ↔ (cap_of c ≡ cap_of d) }
     ensures order { (c d : Capability) → is_eq (capability_cmp c d) ≡ capability_eq c d }
@@ -20,8 +21,8 @@ pub fn digests_of_capabilities()
     ensures { (c d : Capability) → cap_of c ≡ cap_of d → c.digest ≡ d.digest }
 {}
 
-/// Linking twice is the last linking, what requests are about does not depend on slots, and the environment of undeclared
-/// actions stays as it is.
+/// Linking replaces an earlier linking, the request type does not depend on slots, and the
+/// environment of undeclared actions stays as it is.
 pub fn linking_of_slots()
     ensures twice { (e : RequestEnv) (p q r s : Option EntityType)
         → linked (linked e p q) r s ≡ linked e r s }

@@ -40,8 +40,8 @@ impl<'a> Place<'a> {
     }
 }
 
-/// The ways that are still to come to link both slots: those of the principal's link at hand from that of the resource
-/// at hand on, and all of its later ones.
+/// The pairs of links still to come: the principal's link at hand with each of the resource's links
+/// from the one at hand on, then each later link of the principal with all of the resource's links.
 #[derive(Drop)]
 pub(crate) struct LinkPairs<'a> {
     pub(crate) place: Place<'a>,
@@ -79,7 +79,8 @@ impl<'a> LinkPairs<'a> {
         }
     }
 
-    /// The next environment; `None` after the last. Where memory is refused, it is still to come.
+    /// The next environment; `None` after the last. If memory is refused, that environment is still
+    /// to come.
     pub(crate) fn next_env(&mut self, _alloc: Global) -> Result<Option<RequestEnv<'a>>, AllocError>
         ensures next { IfOk result (λ o. MatchOption o
             ((pairs_left self.old ≡ []) × (pairs_left self.new ≡ []))
@@ -119,7 +120,7 @@ impl<'a> LinkPairs<'a> {
         }))
     }
 
-    /// The next environment of these, if there are any.
+    /// The next environment of `links`; `None` if there are no links, or none is left.
     pub(crate) fn next_of(
         alloc: Global,
         links: &mut Option<LinkPairs<'a>>,

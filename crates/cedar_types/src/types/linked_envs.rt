@@ -1,23 +1,24 @@
-// The environments that a template is checked in.
+// The environments in which the typechecker checks a template.
 ghost use Rattle.std.specs.Prelude.{◌≤◌};
 ghost use Rattle.cedar_types.specs.Environments.SlotLinks.{links_held, most_links};
 
-use crate::base::{SlotId, Template, ValidationMode, ValidatorSchema};
+use crate::base::{Template, ValidationMode, ValidatorSchema};
 use crate::types::link_pairs::{LinkPairs, Place};
 use crate::types::request_env::RequestEnv;
 use crate::types::unlinked_envs::UnlinkedRequestEnvs;
 use std::alloc::{AllocError, Global};
 
-/// The environments that a template is checked in, one at a time: those of the schema, each with the template's slots
-/// linked in all ways.
+/// The environments in which the typechecker checks a template, one at a time: those of the schema,
+/// each with the template's slots linked in all ways.
 ///
-/// A slot that does not occur in the template is not linked. One that does is linked to the type of its variable where
-/// the scope says `==`; where it says `in`, to each declared type that has this type as a descendant and then to the type
-/// itself, so a type below itself comes twice; where it says neither, to each declared type. It holds the links of one
-/// environment at a time: of both slots together at most twice as many as the schema has entity types, and two. Where
-/// neither slot occurs it holds none, and a step takes no memory.
+/// A slot that does not occur in the template is not linked. A slot that occurs is linked to the
+/// type of its variable if the scope says `==`; if the scope says `in`, to each declared type that
+/// has this type as a descendant and then to the type itself, so a type below itself is listed
+/// twice; if the scope says neither, to each declared type. The iterator holds the links of one
+/// environment at a time: of both slots together at most twice as many as the schema has entity
+/// types, and two. If neither slot occurs, it holds none, and a step takes no memory.
 ///
-/// Where memory is refused, an item is an `AllocError`, and there is none after it.
+/// If memory is refused, an item is an `AllocError`, and no item follows it.
 #[derive(Drop)]
 pub struct LinkedRequestEnvs<'a> {
     alloc: Global,
@@ -26,7 +27,7 @@ pub struct LinkedRequestEnvs<'a> {
     has_principal_slot: bool,
     has_resource_slot: bool,
     unlinked: UnlinkedRequestEnvs<'a>,
-    /// Those still to come of the environment of the schema at hand.
+    /// The links still to come for the schema's environment at hand.
     links: Option<LinkPairs<'a>>,
     ended: bool,
     ghost few_links: { links_held links ≤ most_links schema.now },
@@ -39,7 +40,8 @@ impl ValidatorSchema {
     ghost use Rattle.cedar_types.specs.Schemas.Contents.{schema_of};
     ghost use Rattle.cedar_types.specs.Templates.{template_of};
 
-    /// The environments that this template is checked in. Where memory is refused, the answer is an `AllocError`.
+    /// The environments in which the typechecker checks `t`. If memory is refused, the answer is an
+    /// `AllocError`.
     #[tactic(auto, unfolding(crate::specs::Environments::LinkViews::linked_left, crate::specs::Environments::LinkViews::linked_is_over))]
     pub fn linked_request_envs<'a>(
         &'a self,
@@ -51,14 +53,13 @@ impl ValidatorSchema {
             linked_left l ≡ checked_envs (schema_of self.now) mode (template_of t.now)) }
         ensures begun { IfOk result (λ l. linked_is_over l ≡ false) }
     {
-        let has_principal_slot = t.mentions_slot(alloc, SlotId::Principal)?;
-        let has_resource_slot = t.mentions_slot(alloc, SlotId::Resource)?;
+        let slots = t.mentioned_slots(alloc)?;
         Ok(LinkedRequestEnvs {
             alloc,
             schema: self,
             template: t,
-            has_principal_slot,
-            has_resource_slot,
+            has_principal_slot: slots.principal,
+            has_resource_slot: slots.resource,
             unlinked: self.unlinked_request_envs(mode),
             links: None,
             ended: false,
@@ -96,7 +97,7 @@ impl<'a> LinkedRequestEnvs<'a> {
     ghost use Rattle.cedar_types.specs.Schemas.Contents.{schema_of};
     ghost use Rattle.cedar_types.specs.Templates.{template_of};
 
-    /// The next environment; `None` after the last. An environment of the schema may have no link at all.
+    /// The next environment; `None` after the last. The loop skips an environment without any link.
     fn next_env(&mut self) -> Result<Option<RequestEnv<'a>>, AllocError>
         ensures next { IfOk result (λ o. MatchOption o
             (linked_to_come self.old ≡ [])
@@ -134,7 +135,7 @@ impl<'a> LinkedRequestEnvs<'a> {
         }
     }
 
-    /// The ways to link both slots in this environment.
+    /// The ways to link both slots in the environment `place`.
     fn links_at(&self, place: Place<'a>) -> Result<LinkPairs<'a>, AllocError>
         ensures links { IfOk result (λ l.
             pairs_left l

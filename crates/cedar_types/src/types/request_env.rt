@@ -1,4 +1,4 @@
-//! The environments that typing works in.
+//! Request environments: the environments that typing works in.
 ghost use Rattle.std.specs.Prelude.{◌≡◌, IfOk, option_map};
 ghost use Rattle.cedar_types.specs.Names.{placed_type};
 ghost use Rattle.cedar_types.specs.Types.{ty_of};
@@ -11,11 +11,13 @@ use crate::base::{
 pub use crate::types::unlinked_envs::UnlinkedRequestEnvs;
 use std::alloc::{AllocError, Global};
 
-/// What a request may be about: an action that the schema declares with one of its principal types, one of its resource
-/// types and the type of its context, or, in Partial alone, an action of which nothing is known.
+/// A request environment, the subject of a request: an action that the schema declares with one of
+/// its principal types, one of its resource types and the type of its context, or, in Partial
+/// alone, an action of which nothing is known.
 #[derive(Debug, Drop)]
 pub enum RequestEnv<'a> {
-    /// An action that the schema declares, with one choice of what it applies to.
+    /// An action that the schema declares, with one of its principal types and one of its resource
+    /// types.
     DeclaredAction {
         principal: &'a EntityType,
         action: &'a EntityUID,
@@ -31,7 +33,8 @@ pub enum RequestEnv<'a> {
 }
 
 impl<'a> RequestEnv<'a> {
-    /// The two types and the action, without context and slots. There are none of an undeclared action.
+    /// The principal type, the action and the resource type, without context and slots; `None` for
+    /// an undeclared action.
     pub fn to_request_type(&self, _alloc: Global) -> Result<Option<RequestType>, AllocError>
         ensures { IfOk result (λ t. option_map placed_request t ≡ request_in self.now) }
     {
@@ -50,7 +53,8 @@ impl<'a> RequestEnv<'a> {
         }
     }
 
-    /// Links both slots to the types of what they are bound to, and to none where they are not.
+    /// Links each slot to the type of the entity that `slot_env` binds it to, and to none if it is
+    /// not bound.
     pub fn link_slot_env(
         self,
         _alloc: Global,
@@ -63,7 +67,7 @@ impl<'a> RequestEnv<'a> {
         Ok(self.link(principal, resource))
     }
 
-    /// The same environment with these types of its slots. It takes no memory.
+    /// This environment with the given slot types in place of its own. It takes no memory.
     pub fn link(
         self,
         principal_slot: Option<EntityType>,
@@ -100,7 +104,7 @@ impl<'a> RequestEnv<'a> {
         }
     }
 
-    /// The principal's type: any entity where it is not known.
+    /// The principal's type: any entity if the type is not known.
     pub fn principal_type(&self, alloc: Global) -> Result<CedarType, AllocError>
         ensures { IfOk result (λ t. ty_of t ≡ principal_ty (env_of self.now)) }
     {
@@ -122,7 +126,8 @@ impl<'a> RequestEnv<'a> {
         }
     }
 
-    /// The action's type, which only a declared one has: any entity where the action is not known.
+    /// The action's type: any entity if the action is not known, `None` if `schema` does not
+    /// declare it.
     pub fn action_type(
         &self,
         alloc: Global,
@@ -149,7 +154,7 @@ impl<'a> RequestEnv<'a> {
         }
     }
 
-    /// The resource's type: any entity where it is not known.
+    /// The resource's type: any entity if the type is not known.
     pub fn resource_type(&self, alloc: Global) -> Result<CedarType, AllocError>
         ensures { IfOk result (λ t. ty_of t ≡ resource_ty (env_of self.now)) }
     {
@@ -161,7 +166,7 @@ impl<'a> RequestEnv<'a> {
         }
     }
 
-    /// The context's type: any record where it is not known.
+    /// The context's type: any record if the type is not known.
     pub fn context_type(&self, alloc: Global) -> Result<CedarType, AllocError>
         ensures { IfOk result (λ t. ty_of t ≡ context_ty (env_of self.now)) }
     {
@@ -192,7 +197,7 @@ impl<'a> RequestEnv<'a> {
     }
 }
 
-/// The type of what a slot is bound to.
+/// The type of the entity that `slot_env` binds `slot` to, if it binds it.
 fn type_bound(slot_env: &SlotEnv, slot: SlotId) -> Result<Option<EntityType>, AllocError>
     ensures { IfOk result (λ t. option_map placed_type t ≡ bound_type slot slot_env.now.entries) }
 {

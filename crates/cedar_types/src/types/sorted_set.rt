@@ -10,13 +10,16 @@ use std::alloc::{AllocError, Global};
 use std::collections::BTreeSet;
 use std::marker::Model;
 
-/// From how many times as many entries on a set is much larger: it is cheaper to look up the place of each entry of the other.
+/// The ratio of sizes from which a set is much larger: from there on, a binary search for each
+/// entry of the smaller set is cheaper than a merge.
 const MERGE_RATIO: usize = 8;
 
-/// Up to how many entries are put in their places one after another: each moves what stands above it.
+/// The largest number of entries to insert one after another: each insertion moves the entries
+/// above it.
 const FEW: usize = 64;
 
-/// A set: a vector in ascending order without repeats. Two entries are one where their order says that they are equal.
+/// A set: a vector in ascending order without repeats. Two entries are one if their order says that
+/// they are equal.
 #[derive(Drop, Debug)]
 pub struct SortedSet<T: Entry> {
     entries: Vec<T>,
@@ -44,7 +47,8 @@ impl<T: Entry + Drop> SortedSet<T> {
         }
     }
 
-    /// The set of these entries, without a copy. Where memory is refused, the answer is an `AllocError`.
+    /// The set of the entries of `ordered`, without a copy. If memory is refused, the answer is an
+    /// `AllocError`.
     pub fn from_ordered(alloc: Global, ordered: BTreeSet<T>) -> Result<SortedSet<T>, AllocError>
         ensures { IfOk result (λ r. r ≡ ordered.keys) }
     {
@@ -52,7 +56,7 @@ impl<T: Entry + Drop> SortedSet<T> {
         Ok(SortedSet { entries })
     }
 
-    /// Whether it is in the set, by a binary search.
+    /// Whether `entry` is in the set, by a binary search.
     pub fn contains(&self, entry: &T) -> bool
         ensures { result ≡ list_any (λ e. is_eq (T.cmp entry.now e)) self.now }
     {
@@ -66,7 +70,8 @@ impl<T: Entry + Drop> SortedSet<T> {
         &self.entries
     }
 
-    /// Adds an entry. Where memory is refused, the answer is an `AllocError`, and the set is as it was.
+    /// Adds an entry. If memory is refused, the answer is an `AllocError`, and the set stays as it
+    /// was.
     pub fn insert(&mut self, entry: T) -> Result<(), AllocError>
         ensures added { OnOk result (HasOneMore T.cmp self.old entry self.new) }
         ensures kept { OnErr result (self.new ≡ self.old) }
@@ -74,7 +79,7 @@ impl<T: Entry + Drop> SortedSet<T> {
         add_entry(&mut self.entries, entry)
     }
 
-    /// A copy. Where memory is refused, the answer is an `AllocError`.
+    /// A copy of the set. If memory is refused, the answer is an `AllocError`.
     pub fn try_clone(&self, alloc: Global) -> Result<SortedSet<T>, AllocError>
         ensures { IfOk result (λ r. HasSame T.cmp self.now r) }
     {
@@ -82,7 +87,8 @@ impl<T: Entry + Drop> SortedSet<T> {
         Ok(SortedSet { entries })
     }
 
-    /// What either set has: copies, by one walk over both. Where memory is refused, the answer is an `AllocError`.
+    /// The entries of either set, as copies, by one walk over both. If memory is refused, the
+    /// answer is an `AllocError`.
     pub fn union(&self, alloc: Global, other: &SortedSet<T>) -> Result<SortedSet<T>, AllocError>
         ensures { IfOk result (λ r. HasEither T.cmp self.now other.now r) }
     {
@@ -90,9 +96,9 @@ impl<T: Entry + Drop> SortedSet<T> {
         Ok(SortedSet { entries })
     }
 
-    /// What either set has; both end in it, and no entry is copied. Where one has few entries and is much smaller, each of
-    /// these is put in its place in the other; else one walk goes over both. Where memory is refused, the answer is an
-    /// `AllocError`.
+    /// The entries of either set, without a copy: the call consumes both. If one set has few
+    /// entries and is much smaller, each of its entries is inserted into the other; else one walk
+    /// goes over both. If memory is refused, the answer is an `AllocError`.
     pub fn join(self, other: SortedSet<T>) -> Result<SortedSet<T>, AllocError>
         ensures { IfOk result (λ r. HasEither T.cmp self other r) }
     {
@@ -127,7 +133,8 @@ impl<T: Entry + Drop> SortedSet<T> {
         Ok(all)
     }
 
-    /// What both sets have: copies, by one walk over both. Where memory is refused, the answer is an `AllocError`.
+    /// The entries that both sets have, as copies, by one walk over both. If memory is refused, the
+    /// answer is an `AllocError`.
     pub fn intersect(&self, alloc: Global, other: &SortedSet<T>) -> Result<SortedSet<T>, AllocError>
         ensures { IfOk result (λ r. HasBoth T.cmp self.now other.now r) }
     {

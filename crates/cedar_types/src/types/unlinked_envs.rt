@@ -53,8 +53,9 @@ impl<'a> Iterator for UnlinkedRequestEnvs<'a> {
 }
 
 impl ValidatorSchema {
-    /// One for each declared action that is not external, each of its principal types and each of its resource types;
-    /// in Partial the environment of undeclared actions too, once. It takes no memory.
+    /// The environments of the schema: one for each declared action that is not external, each of
+    /// its principal types and each of its resource types; in Partial the environment of undeclared
+    /// actions too, once. The iterator takes no memory.
     pub fn unlinked_request_envs(&self, mode: ValidationMode) -> UnlinkedRequestEnvs<'_>
         ensures { envs_left result ≡ unlinked_envs (schema_of self.now) mode }
     {

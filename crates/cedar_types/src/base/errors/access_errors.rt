@@ -1,4 +1,4 @@
-// Attributes and tags that may not be there.
+// Errors on attributes and tags that may be absent.
 use crate::base::errors::messages::Message;
 use crate::base::errors::validation_errors::ValidationError;
 use crate::base::location::Loc;
@@ -9,7 +9,7 @@ use crate::base::types::entity_sets::EntityLUB;
 use std::rc::RcStr;
 use thiserror::Error;
 
-/// An attribute is read that the type of its base does not declare.
+/// A policy reads an attribute that the type of its base does not declare.
 #[derive(PartialEq, Eq, PartialOrd, Ord, Hash, Debug, Drop, Error)]
 #[error("for policy `{policy_id}`, {0}", Message(self))]
 pub struct UnsafeAttributeAccess {
@@ -22,7 +22,7 @@ pub struct UnsafeAttributeAccess {
 }
 
 impl UnsafeAttributeAccess {
-    /// What is wrong between the attribute and the type.
+    /// The words of the message between the attribute and the type.
     pub(crate) fn what_is_wrong(&self) -> &'static str {
         if self.may_exist {
             "may be absent from"
@@ -32,7 +32,7 @@ impl UnsafeAttributeAccess {
     }
 }
 
-/// An optional attribute is read without a test that it is there.
+/// A policy reads an optional attribute without a test that it is present.
 #[derive(PartialEq, Eq, PartialOrd, Ord, Hash, Debug, Drop, Error)]
 #[error("for policy `{policy_id}`, {0}", Message(self))]
 pub struct UnsafeOptionalAttributeAccess {
@@ -42,23 +42,23 @@ pub struct UnsafeOptionalAttributeAccess {
     pub attr: RcStr,
 }
 
-/// A tag is read without a test that it is there.
+/// A policy reads a tag without a test that it is present.
 #[derive(PartialEq, Eq, PartialOrd, Ord, Hash, Debug, Drop, Error)]
 #[error("for policy `{policy_id}`, {0}", Message(self))]
 pub struct UnsafeTagAccess {
     pub source_loc: Option<Loc>,
     pub policy_id: PolicyID,
-    /// The types of the entity, or none where it may be of any.
+    /// The types of the entity; `None` if it may be of any type.
     pub entity_ty: Option<EntityLUB>,
 }
 
-/// A tag is read of an entity whose types declare no tags.
+/// A policy reads a tag of an entity whose types declare no tags.
 #[derive(PartialEq, Eq, PartialOrd, Ord, Hash, Debug, Drop, Error)]
 #[error("for policy `{policy_id}`, {0}", Message(self))]
 pub struct NoTagsAllowed {
     pub source_loc: Option<Loc>,
     pub policy_id: PolicyID,
-    /// The type of the entity, or none where it may be of several.
+    /// The type of the entity; `None` if it may be of several.
     pub entity_ty: Option<EntityType>,
 }
 

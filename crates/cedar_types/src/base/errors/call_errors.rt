@@ -1,4 +1,4 @@
-// Calls of extension functions.
+// Errors on calls of extension functions.
 use crate::base::errors::messages::Message;
 use crate::base::errors::validation_errors::ValidationError;
 use crate::base::location::Loc;
@@ -7,7 +7,7 @@ use crate::base::names::policy_ids::PolicyID;
 use std::rc::RcStr;
 use thiserror::Error;
 
-/// A function is called that the table of extension functions does not have.
+/// A policy calls a function that the table of extension functions does not have.
 #[derive(PartialEq, Eq, PartialOrd, Ord, Hash, Debug, Drop, Error)]
 #[error("for policy `{policy_id}`, {0}", Message(self))]
 pub struct UndefinedFunction {
@@ -16,7 +16,7 @@ pub struct UndefinedFunction {
     pub name: Name,
 }
 
-/// A function is called with too few or too many arguments.
+/// A policy calls a function with too few or too many arguments.
 #[derive(PartialEq, Eq, PartialOrd, Ord, Hash, Debug, Drop, Error)]
 #[error("for policy `{policy_id}`, {0}", Message(self))]
 pub struct WrongNumberArguments {
@@ -35,7 +35,7 @@ pub struct FunctionArgumentValidation {
     pub msg: RcStr,
 }
 
-/// A function that has a check is called with an argument that is no literal, in Strict.
+/// A policy calls a checked function with an argument that is no literal, in Strict.
 #[derive(PartialEq, Eq, PartialOrd, Ord, Hash, Debug, Drop, Error)]
 #[error("for policy `{policy_id}`, {0}", Message(self))]
 pub struct NonLitExtConstructor {

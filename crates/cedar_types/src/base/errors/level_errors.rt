@@ -1,4 +1,4 @@
-// Dereferences beyond a level, and what should not happen.
+// Errors on dereferences beyond a level, and on forms without a rule.
 use crate::base::errors::messages::Message;
 use crate::base::errors::validation_errors::ValidationError;
 use crate::base::levels::EntityDerefLevel;
@@ -24,8 +24,9 @@ pub struct LiteralDereferenceTarget {
     pub policy_id: PolicyID,
 }
 
-/// A form was met that has no rule. Typing reports it of `hasTag` and `getTag` on what is Never, which comes up in
-/// Partial alone; the level pass does too, on a base that is neither an entity of known types nor a record.
+/// A form has no rule. Typing reports it for `hasTag` and `getTag` on an operand of type Never,
+/// which occurs in Partial alone; the level pass reports it on a base that is neither an entity of
+/// known types nor a record.
 #[derive(PartialEq, Eq, PartialOrd, Ord, Hash, Debug, Drop, Error)]
 #[error("for policy `{policy_id}`, {0}", Message(self))]
 pub struct InternalInvariantViolation {
@@ -68,7 +69,7 @@ impl ValidationError {
         })
     }
 
-    /// The error on a form that should not be met.
+    /// The error on a form that has no rule.
     pub fn internal_invariant_violation(
         source_loc: Option<Loc>,
         policy_id: PolicyID,

@@ -1,4 +1,4 @@
-// What errors and warnings say, without the policy that they are about.
+// Messages of errors and warnings, without their policy.
 use crate::base::errors::access_errors::{
     NoTagsAllowed, UnsafeAttributeAccess, UnsafeOptionalAttributeAccess, UnsafeTagAccess,
 };
@@ -19,8 +19,8 @@ use crate::base::errors::validation_warnings::{
 };
 use std::fmt;
 
-/// An error or a warning, shown without the policy that it is about: what stands behind "for policy `..`, " where it is shown
-/// by itself.
+/// An error or a warning without its policy: `Display` writes the part of its full message that
+/// follows "for policy `..`, ".
 #[derive(Drop)]
 pub struct Message<'a, T>(pub &'a T);
 

@@ -1,4 +1,4 @@
-// Types as they are shown in the texts of errors.
+// Types as the texts of errors show them.
 use crate::base::types::CedarType;
 use std::collections::BTreeSet;
 use std::fmt;
@@ -24,7 +24,7 @@ impl fmt::Display for QuotedTypes<'_> {
     }
 }
 
-/// A type or a set of types, or `entity` for none.
+/// A type or a set of types; `Display` writes `entity` for `None`.
 #[derive(Drop)]
 pub(crate) struct OrAnyEntity<'a, T>(pub(crate) &'a Option<T>);
 

@@ -1,4 +1,4 @@
-// Types that are not the wanted ones, or have no bound.
+// Errors on types that are not the expected ones, or have no bound.
 use crate::base::errors::messages::Message;
 use crate::base::errors::validation_errors::ValidationError;
 use crate::base::location::Loc;
@@ -17,7 +17,7 @@ pub struct UnexpectedType {
     pub actual: CedarType,
 }
 
-/// Where a bound of several types was wanted.
+/// The construct in which several types need a bound.
 #[derive(Clone, Copy, PartialEq, Eq, PartialOrd, Ord, Hash, Debug)]
 pub enum LubContext {
     /// Between the branches of an `if`.
@@ -26,7 +26,7 @@ pub enum LubContext {
     Set,
     /// Between the sides of `==`.
     Equality,
-    /// Between the elements of a set and what it may contain.
+    /// Between the elements of a set and the operand of `contains`.
     Contains,
     /// Between the two sets of `containsAll` or `containsAny`.
     ContainsAnyAll,

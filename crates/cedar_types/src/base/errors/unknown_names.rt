@@ -1,4 +1,4 @@
-// Names of types, actions and entities that the schema does not have.
+// Errors on names of types, actions and entities that the schema does not have.
 use crate::base::errors::messages::Message;
 use crate::base::errors::validation_errors::ValidationError;
 use crate::base::location::Loc;

@@ -16,10 +16,10 @@ use crate::base::location::Loc;
 use crate::base::names::policy_ids::PolicyID;
 use thiserror::Error;
 
-/// What makes a policy invalid, with the policy's id and the place that it is about.
+/// An error that makes a policy invalid, with the policy's id and the place of the error.
 ///
-/// Errors are ordered, so that a set can keep them in order: `Equal` is answered exactly where `==` holds. Which order it is may
-/// change.
+/// Errors have an order, so that a set can keep them: `cmp` answers `Equal` exactly if `==` holds.
+/// A later version may order errors differently.
 #[derive(PartialEq, Eq, PartialOrd, Ord, Hash, Debug, Error)]
 pub enum ValidationError {
     /// A type that the schema does not know.
@@ -31,7 +31,7 @@ pub enum ValidationError {
     /// An id that its enumerated type does not list.
     #[error(transparent)]
     InvalidEnumEntity(InvalidEnumEntity),
-    /// A part of a type that is not accepted there.
+    /// An expression whose type is not an accepted one.
     #[error(transparent)]
     UnexpectedType(UnexpectedType),
     /// Several types that have no bound.
@@ -80,9 +80,10 @@ impl ValidationError {
     ghost use Rattle.cedar_types.specs.Names.{text_of};
     ghost use Rattle.cedar_types.specs.Errors.{finding_of};
 
-    /// Whether two errors are one finding: the same is wrong at the same place of the same policy. It is what `==` says.
+    /// Whether two errors are one finding: one fault at one place of one policy. `==` answers
+    /// alike.
     ///
-    /// The places that types and ids inside them bring along do not count.
+    /// The comparison ignores the places of the types and ids inside the errors.
     pub fn is_same_finding(&self, other: &ValidationError) -> bool
         ensures { IsTrue result ↔ (finding_of self.now ≡ finding_of other.now) }
     {
@@ -140,8 +141,8 @@ impl ValidationError {
     }
 }
 
-// By hand, so that a proof has one call where an error is dropped: a derived drop stands in it with all kinds of errors at each
-// such place.
+// `Drop` is written by hand, so that a proof has one call for each dropped error: a derived drop
+// would put all kinds of errors into the proof at each such place.
 impl Drop for ValidationError {
     fn drop(self) {
         match self {

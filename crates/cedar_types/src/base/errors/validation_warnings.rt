@@ -20,11 +20,11 @@ pub struct InvalidActionApplication {
     pub policy_id: PolicyID,
     /// Whether `in` in place of `==` might help for the principal.
     pub would_in_fix_principal: bool,
-    /// The same for the resource.
+    /// Whether `in` in place of `==` might help for the resource.
     pub would_in_fix_resource: bool,
 }
 
-/// What is likely a slip in a policy, with the policy's id and place.
+/// A warning on a likely slip in a policy, with the policy's id and place.
 #[derive(PartialEq, Eq, Hash, Debug, Drop, Error)]
 pub enum ValidationWarning {
     /// The policy never applies.

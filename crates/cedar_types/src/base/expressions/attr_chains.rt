@@ -6,7 +6,7 @@ use crate::base::names::{copy_texts, texts_from};
 use std::alloc::{AllocError, Global};
 use std::rc::RcStr;
 
-/// The attributes that an extended `has` asks for, one after the other. There is always a first.
+/// The attributes that an extended `has` asks for, one after the other, at least one.
 #[derive(PartialEq, Eq, PartialOrd, Ord, Debug, Drop)]
 pub struct AttrChain {
     pub first: RcStr,

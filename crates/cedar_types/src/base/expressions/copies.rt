@@ -9,12 +9,12 @@ use std::collections::BTreeMap;
 use std::rc::RcStr;
 
 impl Expr {
-    /// A copy, places included. The branches of each `if` are shared with the original.
+    /// A copy of the expression, places included. It shares the branches of each `if` with the
+    /// original.
     pub fn try_clone(&self, alloc: Global) -> Result<Expr, AllocError>
         ensures { IfOk result (λ c. written c ≡ written self.now) }
     {
-        let copy = copy_expr(alloc, self)?;
-        Ok(copy)
+        copy_expr(alloc, self)
     }
 }
 

@@ -23,7 +23,7 @@ use std::collections::BTreeSet;
 use std::rc::RcStr;
 use thiserror::Error;
 
-/// Why a check refused the arguments of a call.
+/// The reason for which a check refused the arguments of a call.
 #[derive(PartialEq, Eq, Debug, Drop, Error)]
 #[error("{msg}")]
 pub struct ArgumentError {
@@ -32,9 +32,9 @@ pub struct ArgumentError {
 
 /// A check of the arguments of a call, as they stand in the policy.
 ///
-/// An `AllocError` is passed on by whoever asks.
+/// The caller of `check` passes an `AllocError` on.
 pub trait ArgumentCheck: Drop {
-    // what the check means: the message with which it refuses these arguments, if it does
+    // the meaning of the check: the message with which it refuses these arguments, if it does
     ghost refusal: { Self → List (Tree Written) → Option Text };
 
     fn check(&self, args: &[Expr]) -> Result<Result<(), ArgumentError>, AllocError>
@@ -49,7 +49,8 @@ impl ArgumentCheck for Box<dyn ArgumentCheck> {
     }
 }
 
-/// An extension function: its name, the types of its arguments and of its answer, and a check of its arguments.
+/// An extension function: its name, the types of its arguments and of its answer, and a check of
+/// its arguments.
 ///
 /// A variadic function takes its last argument type any further number of times.
 #[derive(Drop)]
@@ -61,8 +62,8 @@ pub struct ExtensionFunctionType<C = Box<dyn ArgumentCheck>> {
     pub check_arguments: Option<C>,
 }
 
-/// The extension functions that a policy may call, and the extension types that `<` and `<=` compare. Like a function,
-/// it has boxed checks where nothing else is said.
+/// The extension functions that a policy may call, and the extension types that `<` and `<=`
+/// compare. Like a function, the table has boxed checks unless `C` says otherwise.
 #[derive(Drop)]
 pub struct ExtensionSchemas<C = Box<dyn ArgumentCheck>> {
     // ascending by name
@@ -81,7 +82,7 @@ impl ExtensionSchemas {
     ghost use Rattle.cedar_types.specs.Extensions.Functions.{function_named};
     ghost use Rattle.cedar_types.specs.Extensions.{functions_of, overloaded_types_of};
 
-    /// The table without functions and without overloaded types. It takes no memory.
+    /// The table without functions and without overloaded types. The call allocates no memory.
     pub fn default(alloc: Global) -> ExtensionSchemas
         ensures functions { (meaning : _) → functions_of meaning result ≡ [] }
         ensures overloaded_types { overloaded_types_of result ≡ [] }
@@ -92,11 +93,13 @@ impl ExtensionSchemas {
         }
     }
 
-    /// The table of these functions and overloaded types, or why there is none. It takes no memory.
+    /// The table of these functions and overloaded types, or the reason for its refusal. The call
+    /// allocates no memory.
     ///
-    /// - `BadReturnType`: a function has a return type that none may have.
-    /// - `VariadicWithoutArguments`: no return type is at fault, and a variadic function has no argument types.
-    /// - `DuplicateFunction`: neither of these is so, and two functions have the same name.
+    /// - `BadReturnType`: a function has a return type that no function may have.
+    /// - `VariadicWithoutArguments`: no return type is at fault, and a variadic function has no
+    ///   argument types.
+    /// - `DuplicateFunction`: neither of these holds, and two functions have one name.
     pub fn new(
         mut functions: Vec<ExtensionFunctionType>,
         overloaded_types: BTreeSet<Name>,
@@ -138,8 +141,8 @@ impl<C> ExtensionSchemas<C> {
     ghost use Rattle.cedar_types.specs.Extensions.Functions.{function_named};
     ghost use Rattle.cedar_types.specs.Extensions.{functions_of, overloaded_types_of};
 
-    /// The function of this name, if there is one. It takes no memory, and each comparison of two names halves the
-    /// functions that are left.
+    /// The function of this name, if there is one. The call allocates no memory, and each
+    /// comparison of two names halves the functions that are left.
     pub fn func_type(&self, name: &Name) -> Option<&ExtensionFunctionType<C>>
         ensures { (meaning : _) →
             option_map (λ f. function_of meaning f.now) result
@@ -167,16 +170,17 @@ impl<C> ExtensionSchemas<C> {
     }
 }
 
-/// Why a table of extension functions is refused.
+/// The reason for which a table of extension functions is refused.
 #[derive(Clone, Copy, PartialEq, Eq, Debug, Error)]
 pub enum ExtensionTableError {
-    /// The return type is none of: a Boolean, a long, a string, an extension value, or a set of one of these.
+    /// A return type is none of: a Boolean, a long, a string, an extension value, or a set of one
+    /// of these.
     #[error("BadReturnType")]
     BadReturnType,
     /// A variadic function has no argument types.
     #[error("VariadicWithoutArguments")]
     VariadicWithoutArguments,
-    /// Two functions have the same name.
+    /// Two functions have one name.
     #[error("DuplicateFunction")]
     DuplicateFunction,
 }

@@ -1,4 +1,4 @@
-// Literals.
+// Literals of policies.
 ghost use Rattle.std.specs.Prelude.{◌≡◌, IfOk};
 ghost use Rattle.cedar_types.specs.Names.{uid_of};
 ghost use Rattle.cedar_types.specs.Expressions.Tree.{bool, long, string, entity};
@@ -48,7 +48,7 @@ impl From<EntityUID> for Literal {
 }
 
 impl Literal {
-    /// The string of this text.
+    /// The string literal of this text.
     pub fn from_string(alloc: Global, text: &str) -> Result<Literal, AllocError>
         ensures { IfOk result (λ x. (lit_of x ≡ string text.now) × (lit_places x ≡ no_name)) }
     {

@@ -1,4 +1,4 @@
-// Makers of expressions, one for each form. What they make has no place; the parts keep theirs.
+// Makers of expressions, one for each form. The new node has no place; its parts keep theirs.
 ghost use Rattle.std.specs.Prelude.{◌≡◌, None, IfOk, map};
 ghost use Rattle.cedar_types.specs.Names.{path_of, type_of};
 ghost use Rattle.cedar_types.specs.Expressions.Tree.{lit, var, slot, unknown, if_then_else, and, or, call, get_attr, has_attr, ext_has_attr, like, is_type, set_of, record_of};
@@ -19,21 +19,21 @@ use std::collections::BTreeMap;
 use std::rc::{Rc, RcStr};
 
 impl Expr {
-    /// This literal. An id in it keeps its places.
+    /// The expression of this literal. An id in it keeps its places.
     pub fn val(literal: Literal) -> Expr
         ensures { written result ≡ lit (naming (lit_places literal)) (lit_of literal) }
     {
         without_place(ExprKind::Lit(literal))
     }
 
-    /// This variable.
+    /// The expression of this variable.
     pub fn var(variable: Var) -> Expr
         ensures { written result ≡ var unplaced variable }
     {
         without_place(ExprKind::Var(variable))
     }
 
-    /// This slot.
+    /// The expression of this slot.
     pub fn slot(id: SlotId) -> Expr
         ensures { written result ≡ slot unplaced id }
     {
@@ -87,7 +87,8 @@ impl Expr {
         Ok(without_place(ExprKind::Or(left, right)))
     }
 
-    /// `name(arguments)`, a call of the extension function of this name. It takes no memory.
+    /// `name(arguments)`, a call of the extension function of this name. The maker allocates no
+    /// memory.
     pub fn call_extension_fn(name: Name, arguments: Vec<Expr>) -> Expr
         ensures { written result ≡ call unplaced
             (path_of name)
@@ -152,22 +153,22 @@ impl Expr {
         Ok(without_place(ExprKind::Is(operand, entity_type)))
     }
 
-    /// The set of these elements, `[first, second]`. It takes no memory.
+    /// The set of these elements, `[first, second]`. The maker allocates no memory.
     pub fn set(elements: Vec<Expr>) -> Expr
         ensures { written result ≡ set_of unplaced (trees_of (map written elements.items)) }
     {
         without_place(ExprKind::Set(elements))
     }
 
-    /// The record of these fields, `{first: a, second: b}`. It takes no memory.
+    /// The record of these fields, `{first: a, second: b}`. The maker allocates no memory.
     pub fn record(fields: BTreeMap<RcStr, Expr>) -> Expr
         ensures { written result ≡ record_of unplaced (fields_written fields.entries) }
     {
         without_place(ExprKind::Record(fields))
     }
 
-    /// The same at this place, or without one. Its parts, and the types and ids that it names itself, stay where they
-    /// are. It takes no memory.
+    /// The expression at this place, or without one. Its parts, and the types and ids that it names
+    /// itself, keep their places. The call allocates no memory.
     pub fn with_maybe_source_loc(mut self, loc: Option<Loc>) -> Expr
         ensures { written result ≡ at_place loc (written self) }
     {

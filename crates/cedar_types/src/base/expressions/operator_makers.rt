@@ -1,4 +1,4 @@
-// Makers of expressions by their operator. What they make has no place; the operands keep theirs.
+// Makers of expressions by their operator. The new node has no place; the operands keep theirs.
 ghost use Rattle.std.specs.Prelude.{◌≡◌, IfOk};
 ghost use Rattle.cedar_types.specs.declared.base.expressions.operators.UnaryOp.TheVariants as UnaryOp;
 ghost use Rattle.cedar_types.specs.declared.base.expressions.operators.BinaryOp.TheVariants as BinaryOp;

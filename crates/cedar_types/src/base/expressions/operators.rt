@@ -3,13 +3,13 @@
 /// A variable of a policy.
 #[derive(Clone, Copy, PartialEq, Eq, PartialOrd, Ord, Debug)]
 pub enum Var {
-    /// Who wants to act.
+    /// The entity that wants to act.
     Principal,
-    /// What they want to do.
+    /// The action that the principal asks for.
     Action,
-    /// What they want to do it to.
+    /// The entity that the action is on.
     Resource,
-    /// What else the request says, a record.
+    /// The other values of the request, a record.
     Context,
 }
 
@@ -24,7 +24,8 @@ pub enum UnaryOp {
     IsEmpty,
 }
 
-/// An operator on two operands: `==`, `<`, `<=`, `+`, `-`, `*`, `in`, the three of sets and the two of tags.
+/// An operator on two operands: `==`, `<`, `<=`, `+`, `-`, `*`, `in`, the three of sets and the two
+/// of tags.
 #[derive(Clone, Copy, PartialEq, Eq, PartialOrd, Ord, Hash, Debug)]
 pub enum BinaryOp {
     /// `==`.
@@ -47,7 +48,7 @@ pub enum BinaryOp {
     ContainsAll,
     /// Whether a set has some member of another.
     ContainsAny,
-    /// The tag of this name, which an entity has to have.
+    /// The tag of this name, which the entity must have.
     GetTag,
     /// Whether an entity has the tag of this name.
     HasTag,

@@ -6,9 +6,9 @@ use std::alloc::{AllocError, Global};
 /// A part of a pattern: a character, or a wildcard, which stands for any run of characters.
 #[derive(Clone, Copy, PartialEq, Eq, PartialOrd, Ord, Hash, Debug)]
 pub enum PatternElem {
-    /// Itself alone.
+    /// This character alone.
     Char(char),
-    /// Any run of characters, also none.
+    /// Any run of characters, even an empty one.
     Wildcard,
 }
 

@@ -1,4 +1,4 @@
-// Expressions that count by their shape alone.
+// Expressions that compare by their shape alone.
 ghost use Rattle.std.specs.Prelude.{◌≡◌, IsTrue, ◌↔◌};
 ghost use Rattle.std.specs.Ordering.{as_partial_cmp};
 ghost use Rattle.cedar_types.specs.Expressions.View.{shape, written};
@@ -10,8 +10,8 @@ use std::alloc::{AllocError, Global};
 use std::cmp::Ordering;
 
 impl<T> Expr<T> {
-    /// Whether two expressions have one shape: the same form, whatever their annotations and places. It is what `==`
-    /// says.
+    /// Whether two expressions have one shape: one form, whatever their annotations and places.
+    /// `==` answers alike.
     pub fn has_shape_of(&self, other: &Expr<T>) -> bool
         ensures test { result ≡ tree_eq (shape self.now) (shape other.now) }
         ensures equality { IsTrue result ↔ (shape self.now ≡ shape other.now) }
@@ -20,15 +20,15 @@ impl<T> Expr<T> {
     }
 }
 
-/// An expression, borrowed or owned, that counts by its shape alone.
+/// An expression, borrowed or owned, that compares by its shape alone.
 ///
-/// It equals each other one of the same shape, wherever the two lie and whatever their places. Its order agrees with
-/// that equality, and no more is said of it.
+/// Two of them are equal exactly if they have one shape, wherever they lie in memory and whatever
+/// their places. Their order agrees with this equality; no contract says more of it.
 #[derive(Drop, Debug)]
 pub enum ExprShapeOnly<'a> {
-    /// It lies in what it was taken from.
+    /// A reference to an expression of another owner.
     Borrowed(&'a Expr),
-    /// It was made for this.
+    /// An expression that this value owns.
     Owned(Expr),
 }
 
@@ -46,7 +46,7 @@ impl<'a> ExprShapeOnly<'a> {
         }
     }
 
-    /// A copy. What is borrowed stays borrowed.
+    /// A copy. A borrowed expression stays borrowed.
     pub fn try_clone(&self, alloc: Global) -> Result<ExprShapeOnly<'a>, AllocError>
         ensures { IfOk result (λ c. written (expr_of c) ≡ written (expr_of self.now)) }
     {

@@ -1,5 +1,6 @@
-// The parts of an expression, one after another.
+// Parts of an expression, one after another.
 ghost use Rattle.std.specs.Prelude.{◌≡◌, ◌++◌, [], ◌∷◌, false, IfOk, map};
+ghost use Rattle.cedar_types.specs.declared.base.names.slots.SlotId.{SlotId};
 ghost use Rattle.cedar_types.specs.FallibleIterators.{YieldsOrEnds, calls_left};
 ghost use Rattle.cedar_types.specs.Expressions.Parts.{subexpressions, mentions_slot, is_slot, listed, field_values, parts, has_ended, expressions_left};
 ghost use Rattle.cedar_types.specs.Expressions.View.{trees_of, written, fields_written};
@@ -10,13 +11,15 @@ use std::alloc::{AllocError, Global};
 use std::collections::BTreeMap;
 use std::rc::RcStr;
 
-/// An expression and all its parts: each comes before its own parts, and its last part before the others.
+/// An iterator over an expression and all its parts: each comes before its own parts, and its last
+/// part before the others.
 ///
-/// What is still to visit lies on the heap, so the caller's stack does not grow with the depth of the expression. Where
-/// memory for it is refused, an `AllocError` comes once; after it, and after the last expression, only `None`.
+/// The expressions still to visit lie on the heap, so the caller's stack does not grow with the
+/// depth of the expression. If memory for them is refused, the iterator yields one `AllocError`;
+/// after it, and after the last expression, only `None`.
 #[derive(Drop)]
 pub struct ExprIterator<'a, T = ()> {
-    // the last is visited next
+    // the last entry is visited next
     stack: Vec<&'a Expr<T>>,
     ended: bool,
 }
@@ -122,12 +125,13 @@ fn push_fields<'a, T>(
 }
 
 impl<T> Expr<T> {
-    /// The direct parts of this expression, from the first to the last: the operands, the test and then the branches of an `if`,
-    /// the arguments of a call, the elements of a set, the values of a record by ascending keys. A literal, a variable, a slot
-    /// and an unknown have none.
+    /// The direct parts of this expression, from the first to the last: the operands, the test and
+    /// then the branches of an `if`, the arguments of a call, the elements of a set, the values of
+    /// a record by ascending keys. A literal, a variable, a slot and an unknown have none.
     ///
-    /// In a typed expression an `if` that its test decides has one branch twice, which `level_validate::only_branch` of
-    /// `cedar_typechecker` gives. Where memory for the list is refused, the answer is an `AllocError`.
+    /// In a typed expression an `if` that its test decides has one branch twice;
+    /// `level_validate::only_branch` of `cedar_typechecker` gives this branch. If memory for the
+    /// list is refused, the answer is an `AllocError`.
     pub fn parts(&self, alloc: Global) -> Result<Vec<&Expr<T>>, AllocError>
         ensures { IfOk result (λ ps.
             map (λ e. written e.now) ps.items ≡ parts (written self.now)) }
@@ -139,8 +143,8 @@ impl<T> Expr<T> {
 
     /// This expression and all its parts, each before its own parts.
     ///
-    /// It does not recurse. An `AllocError` comes where memory for what is still to visit is refused, here or from the
-    /// iterator.
+    /// The walk does not recurse. If memory for the expressions still to visit is refused, this
+    /// call or the iterator answers with an `AllocError`.
     #[tactic(auto, unfolding(crate::specs::Expressions::Parts::expressions_left, crate::specs::Expressions::Parts::has_ended))]
     pub fn subexpressions(&self, alloc: Global) -> Result<ExprIterator<'_, T>, AllocError>
         ensures started { IfOk result (λ s. has_ended s ≡ false) }
@@ -156,7 +160,8 @@ impl<T> Expr<T> {
 
     /// Whether this slot occurs in the expression.
     ///
-    /// It does not recurse. An `AllocError` comes where memory for what is still to visit is refused.
+    /// The walk does not recurse. If memory for the expressions still to visit is refused, the
+    /// answer is an `AllocError`.
     pub fn mentions_slot(&self, alloc: Global, slot: SlotId) -> Result<bool, AllocError>
         ensures { IfOk result (λ b. b ≡ mentions_slot slot (written self.now)) }
     {
@@ -167,6 +172,33 @@ impl<T> Expr<T> {
         }
         Ok(false)
     }
+
+    /// Which slots occur in the expression. One walk finds both.
+    pub(crate) fn mentioned_slots(&self, alloc: Global) -> Result<MentionedSlots, AllocError>
+        ensures principal { IfOk result (λ s.
+            s.principal ≡ mentions_slot SlotId.Principal (written self.now)) }
+        ensures resource { IfOk result (λ s.
+            s.resource ≡ mentions_slot SlotId.Resource (written self.now)) }
+    {
+        let mut principal = false;
+        let mut resource = false;
+        for item in self.subexpressions(alloc)? {
+            let expr = item?;
+            principal |= is_slot(expr, SlotId::Principal);
+            resource |= is_slot(expr, SlotId::Resource);
+        }
+        Ok(MentionedSlots {
+            principal,
+            resource,
+        })
+    }
+}
+
+/// Which slots occur.
+#[derive(Clone, Copy)]
+pub(crate) struct MentionedSlots {
+    pub principal: bool,
+    pub resource: bool,
 }
 
 /// Whether the expression is this slot itself.

@@ -8,7 +8,7 @@ use std::alloc::{AllocError, Global};
 use std::fmt;
 use std::rc::RcStr;
 
-/// The type of an entity: a name, and where it stands. The place counts in no comparison.
+/// The type of an entity: a name and its place. Comparisons ignore the place.
 #[derive(Drop)]
 #[derive_where(PartialEq, Eq, PartialOrd, Ord, Hash, Debug)]
 pub struct EntityType {
@@ -18,7 +18,7 @@ pub struct EntityType {
 }
 
 impl EntityType {
-    /// The type of this name, which stands at this place.
+    /// The entity type of this name, at this place.
     pub fn new(name: Name, loc: Option<Loc>) -> EntityType
         ensures { placed_type result ≡ record { name = path_of name; place = loc } }
     {
@@ -59,9 +59,9 @@ impl fmt::Display for EntityType {
     }
 }
 
-/// The id of an entity, and where it stands. The place counts in no comparison.
+/// The id of an entity and its place. Comparisons ignore the place.
 ///
-/// It is shown as `Type::"eid"`, where `"` and `\` in the eid take a backslash before them.
+/// `Display` writes `Type::"eid"`, with a backslash before each `"` and `\` of the eid.
 #[derive(Drop)]
 #[derive_where(PartialEq, Eq, PartialOrd, Ord, Hash, Debug)]
 pub struct EntityUID {
@@ -72,7 +72,8 @@ pub struct EntityUID {
 }
 
 impl EntityUID {
-    /// The id of this eid among the entities of this type, which stands at this place. The type keeps its own.
+    /// The id of the entity of this type with this eid, at this place. The type keeps its own
+    /// place.
     pub fn from_components(
         alloc: Global,
         entity_type: EntityType,

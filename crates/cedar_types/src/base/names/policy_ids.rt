@@ -6,7 +6,7 @@ use std::alloc::{AllocError, Global};
 use std::fmt;
 use std::rc::RcStr;
 
-/// The id of a policy, any text. It is shown as it is.
+/// The id of a policy, any text. `Display` writes the text unchanged.
 #[derive(PartialEq, Eq, PartialOrd, Ord, Hash, Debug, Drop)]
 pub struct PolicyID {
     pub text: RcStr,

@@ -1,4 +1,4 @@
-// Slots of templates, and what they are bound to.
+// Slots of templates, and their bindings.
 use crate::base::names::entities::EntityUID;
 use std::collections::BTreeMap;
 
@@ -11,5 +11,5 @@ pub enum SlotId {
     Resource,
 }
 
-/// What the slots of a template are bound to.
+/// The entities that the slots of a template are bound to.
 pub type SlotEnv = BTreeMap<SlotId, EntityUID>;

@@ -1,4 +1,4 @@
-// The actions that a schema declares.
+// Actions that a schema declares.
 ghost use Rattle.std.specs.Prelude.{◌≡◌, option_map};
 
 use crate::base::names::entities::{EntityType, EntityUID};
@@ -15,28 +15,29 @@ pub struct ValidatorActionId {
     pub kind: ValidatorActionKind,
 }
 
-/// Whether it is known what an action applies to.
+/// The kind of an action: whether the schema knows its application.
 #[derive(Debug, Drop)]
 pub enum ValidatorActionKind {
-    /// It applies to these, and to nothing else.
+    /// The action applies to these types, and to no others.
     Defined(ValidatorApplySpec),
-    /// Declared elsewhere.
+    /// The action is declared elsewhere.
     External,
 }
 
-/// What an action applies to: each principal type with each resource type, and one type of context.
+/// The application of an action: each principal type with each resource type, and one type of
+/// context.
 #[derive(Debug, Drop)]
 pub struct ValidatorApplySpec {
     pub principal_apply_spec: BTreeSet<EntityType>,
     pub resource_apply_spec: BTreeSet<EntityType>,
-    /// Shared with the environments of the action.
+    /// The type of the context, shared with the environments of the action.
     pub context: Rc<CedarType>,
 }
 
 impl ValidatorActionId {
     ghost use Rattle.cedar_types.specs.Schemas.Declarations.{application, applies};
 
-    /// What the action applies to; `None` of an external one.
+    /// The application of the action; `None` for an external one.
     pub fn defined(&self) -> Option<&ValidatorApplySpec>
         ensures { option_map (λ a. application a.now) result ≡ applies self.now.kind }
     {

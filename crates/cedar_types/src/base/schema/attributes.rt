@@ -1,4 +1,4 @@
-// All attributes of a type, in a schema.
+// Attributes of a type, in a schema.
 ghost use Rattle.std.specs.Prelude.{◌≡◌, IfOk};
 ghost use Rattle.cedar_types.specs.Names.{type_of};
 ghost use Rattle.cedar_types.specs.Types.{ty_of, lub_of, attributes_of, no_attrs};
@@ -15,13 +15,14 @@ use std::alloc::{AllocError, Global};
 use std::collections::BTreeMap;
 
 impl CedarType {
-    /// The attributes of a type by ascending names, each with its type and whether it is required: a record's own; of some
-    /// entity types those that all of them declare with types that have a bound in Permissive, required where all require it.
-    /// No other type has any.
+    /// The attributes of a type by ascending names, each with its type and whether it is required.
+    /// A record has its own; entity types have those that all of them declare with types that have
+    /// a bound in Permissive, required if all require it. No other type has any.
     ///
-    /// Of each name they have what `lookup_attribute_type` finds (`type_laws::listed_attributes`). A value may have others:
-    /// `may_have_attr` tells. Those of a record and of one type that declares some are shared, and take no memory. Where memory is
-    /// refused, the answer is an `AllocError`.
+    /// The attribute of each name is the one that `lookup_attribute_type` finds
+    /// (`type_laws::listed_attributes`). A value may have others: `may_have_attr` tells. The
+    /// attributes of a record, and of one type that declares some, are shared, and take no memory.
+    /// If memory is refused, the answer is an `AllocError`.
     pub fn attributes(
         &self,
         alloc: Global,
@@ -50,7 +51,7 @@ fn no_attributes(alloc: Global) -> Result<Attributes, AllocError>
     Attributes::with_attributes(alloc, BTreeMap::new(alloc))
 }
 
-/// What all of the types declare.
+/// The attributes that all of the types declare.
 fn types_attributes(
     alloc: Global,
     schema: &ValidatorSchema,
@@ -71,7 +72,7 @@ fn types_attributes(
     Ok(found)
 }
 
-/// What one type declares.
+/// The attributes that one type declares.
 #[tactic(auto, unfolding(crate::specs::Schemas::Contents::schema_of))]
 fn declared_attributes(
     alloc: Global,

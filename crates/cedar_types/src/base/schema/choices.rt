@@ -1,4 +1,4 @@
-// The ids of an enumerated type.
+// Ids of an enumerated type.
 ghost use Rattle.std.specs.Prelude.{IfOk};
 ghost use Rattle.cedar_types.specs.Schemas.Choices.Same.{AreSameTexts};
 
@@ -20,7 +20,7 @@ impl EnumChoices {
     ghost use Rattle.cedar_types.specs.Names.{text_of, text_eq};
     ghost use Rattle.cedar_types.specs.Schemas.Choices.{choices_of};
 
-    /// These ids. Where memory is refused, the answer is an `AllocError`.
+    /// The choices of these ids. If memory is refused, the answer is an `AllocError`.
     pub fn new(alloc: Global, ids: Vec<RcStr>) -> Result<EnumChoices, AllocError>
         ensures { IfOk result (λ c. choices_of c ≡ map text_of ids.items) }
     {
@@ -35,7 +35,7 @@ impl EnumChoices {
         self.listed.as_slice()
     }
 
-    /// Whether this is one of the ids. The call takes the logarithm of their number.
+    /// Whether this is one of the ids. The time is logarithmic in their number.
     pub fn contains(&self, id: &RcStr) -> bool
         ensures { result ≡ list_any (text_eq (text_of id.now)) (choices_of self.now) }
     {

@@ -1,4 +1,4 @@
-// Whether what descends from a descendant is a descendant.
+// Closure of descendants: whether each descendant of a descendant is a descendant.
 ghost use Rattle.std.specs.Prelude.{◌≡◌, ◌||◌, true, Some, IfSome, map, take};
 ghost use Rattle.std.specs.List.{list_any, list_all};
 ghost use Rattle.std.specs.Cmp.Lexicographic.{pointwise};
@@ -9,8 +9,8 @@ use crate::base::schema::tables::Table;
 
 /// Whether each declaration has the descendants of its descendants.
 ///
-/// It looks at a chain of declarations, and at declarations that are all in each other, in a time that is linear, but for a
-/// logarithm, in the number of descendants that they declare.
+/// For a chain of declarations, and for declarations that are all in each other, the time is
+/// linear, but for a logarithm, in the number of descendants that they declare.
 pub(crate) fn are_closed<D: Declared>(table: &Table<D>) -> bool
     ensures { result
         ≡ all_closed D.same D.called D.below (map D.plain table.now.declared.items) }
@@ -23,8 +23,9 @@ pub(crate) fn are_closed<D: Declared>(table: &Table<D>) -> bool
     true
 }
 
-/// Whether one of a declaration's descendants is declared before this place and has the same descendants: declarations that are
-/// all in each other have, and these are looked at once. One that is not among its own is in no such ring.
+/// Whether a descendant of a declaration is declared before this place and has the same
+/// descendants. Declarations that are all in each other do, so `are_closed` looks at one of them
+/// alone. A declaration that is not its own descendant is in no such ring.
 fn has_earlier<D: Declared>(table: &Table<D>, above: &D, place: usize) -> bool
     ensures { result ≡ true
         → list_any (λ x.
@@ -46,8 +47,8 @@ fn has_earlier<D: Declared>(table: &Table<D>, above: &D, place: usize) -> bool
     false
 }
 
-/// Whether a declaration has the descendants of each of its own, but for what the fewer of one of them show: if all that are
-/// fewer are closed, these are.
+/// Whether a declaration has the descendants of each of its own, provided that all smaller sets of
+/// descendants are closed: the test leaves out those that the widest smaller one has.
 fn is_kept<D: Declared>(table: &Table<D>, above: &D) -> bool
     ensures kept { result ≡ true
         → are_kept D.same (λ x. D.below (Some x))
@@ -64,7 +65,7 @@ fn is_kept<D: Declared>(table: &Table<D>, above: &D) -> bool
     }
 }
 
-/// Of a declaration's descendants, one that has fewer than it, and of those one that has the most.
+/// A descendant of a declaration that has the most descendants among those with fewer than it.
 fn widest_below<'a, D: Declared>(table: &'a Table<D>, above: &D) -> Option<&'a D>
     ensures { IfSome result (λ d.
         IsBelow D.same D.called (λ x. D.below (Some x)) (map D.plain table.now.declared.items)
@@ -89,7 +90,8 @@ fn is_wider<D: Declared>(found: &D, widest: Option<&D>) -> bool {
     }
 }
 
-/// Whether a declaration has the descendants of each of its own that does not descend from the widest, which is closed.
+/// Whether a declaration has the descendants of each of its own that does not descend from the
+/// widest, which is closed.
 fn are_others_closed<D: Declared>(table: &Table<D>, above: &D, widest: &D) -> bool
     ensures { result ≡ list_all (λ k.
         list_any (D.same k) (D.below (Some (D.plain widest.now)))
@@ -121,7 +123,8 @@ fn are_all_closed<D: Declared>(table: &Table<D>, above: &D) -> bool
     true
 }
 
-/// Whether a declaration has the descendants of what is declared by this name; of nothing, it has them.
+/// Whether a declaration has all descendants of the declaration of this name; true if there is
+/// none.
 fn has_all_below_name<D: Declared>(table: &Table<D>, above: &D, name: &D::Name) -> bool
     ensures { result ≡ has_all D.same (D.below (Some (D.plain above.now)))
         (below_name D.same D.called D.below (map D.plain table.now.declared.items)
@@ -133,7 +136,7 @@ fn has_all_below_name<D: Declared>(table: &Table<D>, above: &D, name: &D::Name) 
     }
 }
 
-/// Whether a declaration has all descendants of another. Both sets are walked in order.
+/// Whether a declaration has all descendants of another. The test walks both sets in order.
 fn has_all_below<D: Declared>(above: &D, found: &D) -> bool
     ensures { result ≡ has_all D.same (D.below (Some (D.plain above.now)))
         (D.below (Some (D.plain found.now))) }
@@ -142,7 +145,7 @@ fn has_all_below<D: Declared>(above: &D, found: &D) -> bool
     others.is_subset(above.descendants())
 }
 
-/// Whether what has this name descends from a declaration.
+/// Whether this name is among the descendants of a declaration.
 pub(crate) fn has_descendant<D: Declared>(above: &D, name: &D::Name) -> bool
     ensures { result
         ≡ list_any (D.same (D.key name.now)) (D.below (Some (D.plain above.now))) }

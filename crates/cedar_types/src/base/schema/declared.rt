@@ -1,4 +1,4 @@
-// What a schema declares by name: entity types and actions.
+// Declarations of a schema by name: entity types and actions.
 ghost use Rattle.std.specs.Prelude.{◌≡◌, [], Bool, List, Option, Some, None, IfOk, map};
 ghost use Rattle.std.specs.Bool.{Decides};
 
@@ -8,9 +8,9 @@ use crate::base::schema::entity_types::ValidatorEntityType;
 use std::alloc::AllocError;
 use std::collections::BTreeSet;
 
-/// What a schema declares: it has a name, and the names of what descends from it.
+/// A declaration of a schema: it has a name, and the names of its descendants.
 pub(crate) trait Declared: Drop {
-    /// What it is called by.
+    /// The type of its name.
     type Name: Ord + Drop;
 
     // names as plain data
@@ -18,7 +18,7 @@ pub(crate) trait Declared: Drop {
 
     ghost key: { Self.Name → Key };
 
-    // whether two names are the same
+    // whether two names are equal
     ghost same: { Key → Key → Bool };
 
     // declarations as plain data
@@ -26,10 +26,10 @@ pub(crate) trait Declared: Drop {
 
     ghost plain: { Self → Plain };
 
-    // the name of one
+    // the name of a declaration
     ghost called: { Plain → Key };
 
-    // the names of what descends from one, where there is one
+    // the names of the descendants of a declaration, if there is one
     ghost below: { Option Plain → List Key };
 
     /// Its name.
@@ -40,17 +40,17 @@ pub(crate) trait Declared: Drop {
     fn copy_name(&self) -> Result<Self::Name, AllocError>
         ensures { IfOk result (λ n. key n ≡ called (plain self.now)) };
 
-    /// The names of what descends from it.
+    /// The names of its descendants.
     fn descendants(&self) -> &BTreeSet<Self::Name>
         ensures { map key result.now.keys ≡ below (Some (plain self.now)) };
 
-    // names are the same where they are equal
+    // `same` decides whether names are equal
     ghost decides: { (a b : Key) → Decides (same a b) (a ≡ b) };
 
-    // nothing descends from nothing
+    // no declaration, no descendants: the list is empty
     ghost none_below: { below None ≡ [] };
 
-    // `==` asks whether names are the same
+    // `==` on names answers as `same` on their keys
     ghost equal: { (a b : Self.Name) → Self.Name.eq a b ≡ same (key a) (key b) };
 }
 
@@ -82,8 +82,7 @@ impl Declared for ValidatorEntityType {
     }
 
     fn copy_name(&self) -> Result<EntityType, AllocError> {
-        let name = self.name.clone()?;
-        Ok(name)
+        self.name.clone()
     }
 
     fn descendants(&self) -> &BTreeSet<EntityType> {
@@ -125,8 +124,7 @@ impl Declared for ValidatorActionId {
     }
 
     fn copy_name(&self) -> Result<EntityUID, AllocError> {
-        let name = self.name.clone()?;
-        Ok(name)
+        self.name.clone()
     }
 
     fn descendants(&self) -> &BTreeSet<EntityUID> {

@@ -1,4 +1,4 @@
-// The entity types that a schema declares.
+// Entity types that a schema declares.
 use crate::base::names::entities::EntityType;
 use crate::base::schema::choices::EnumChoices;
 use crate::base::types::{Attributes, CedarType};
@@ -13,14 +13,14 @@ pub struct ValidatorEntityType {
     pub kind: ValidatorEntityTypeKind,
 }
 
-/// What is known of the entities of a type.
+/// The kind of an entity type: the declared facts about its entities.
 #[derive(Debug, Drop)]
 pub enum ValidatorEntityTypeKind {
-    /// Its attributes are declared, and the type of its tags, if it may have any.
+    /// The attributes of its entities, and the type of their tags, if they may have any.
     Standard(StandardValidatorEntityType),
     /// The ids that its entities have, and no others.
     Enum(EnumChoices),
-    /// Declared elsewhere: neither attributes nor tags are known.
+    /// The type is declared elsewhere: neither attributes nor tags are known.
     External,
 }
 

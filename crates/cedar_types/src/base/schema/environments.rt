@@ -1,4 +1,4 @@
-// The environments of a schema's actions.
+// Environments of a schema's actions.
 ghost use Rattle.std.specs.Prelude.{◌≡◌, ◌++◌, map, Some, IfOk, OnOk};
 ghost use Rattle.cedar_types.specs.Names.{type_of, uid_of};
 ghost use Rattle.cedar_types.specs.Types.{types_of, ty_of};
@@ -12,7 +12,8 @@ use crate::base::schema::request_environments::UnlinkedRequestEnv;
 use crate::base::schema::tables::ActionTable;
 use std::alloc::{AllocError, Global};
 
-/// One for each defined action, principal type and resource type that it applies to.
+/// The environments: one for each defined action, principal type and resource type that it applies
+/// to.
 pub(crate) fn declared_environments(
     alloc: Global,
     actions: &ActionTable,

@@ -1,11 +1,12 @@
-// Why a schema is refused.
+// Errors of schemas.
 use std::alloc::AllocError;
 use thiserror::Error;
 
-/// Why a schema is refused: the first of the faults that it has, in this order, or want of memory.
+/// The reason for which a schema is refused: the first of its faults, in this order, or refused
+/// memory.
 #[derive(Debug, Drop, PartialEq, Eq, Error)]
 pub enum SchemaError {
-    /// A type is declared twice.
+    /// An entity type is declared twice.
     #[error("DuplicateEntityType")]
     DuplicateEntityType,
     /// An action is declared twice.
@@ -20,16 +21,17 @@ pub enum SchemaError {
     /// An enumerated type has no ids.
     #[error("EmptyEnum")]
     EmptyEnum,
-    /// A type is named that is neither declared nor one of actions.
+    /// A declaration names a type that is neither declared nor one of actions.
     #[error("UnknownType")]
     UnknownType,
     /// A descendant of an action is not declared.
     #[error("UnknownActionDescendant")]
     UnknownActionDescendant,
-    /// The type of an attribute, a tag or a context does not say enough, or a context is no record.
+    /// The type of an attribute, a tag or a context says too little, for example an open record, or
+    /// a context is no record.
     #[error("VagueType")]
     VagueType,
-    /// A descendant of a descendant is not listed.
+    /// A declaration does not list a descendant of a descendant.
     #[error("DescendantsNotClosed")]
     DescendantsNotClosed,
     /// Memory was refused, whatever faults there are.

@@ -1,4 +1,4 @@
-// The faults of a schema's declarations whose names are declared once each.
+// Faults of a schema's declarations, apart from names that are declared twice.
 ghost use Rattle.std.specs.Prelude.{◌≡◌, not, option_map};
 ghost use Rattle.std.specs.List.{list_all, list_any};
 ghost use Rattle.cedar_types.specs.Names.{is_action_path, type_of};
@@ -17,7 +17,7 @@ use crate::base::schema::type_faults::{
 };
 use crate::base::types::CedarType;
 
-/// The first fault but those of names that are declared twice.
+/// The first fault, apart from names that are declared twice.
 pub(crate) fn find_fault(types: &EntityTypeTable, actions: &ActionTable) -> Option<SchemaError>
     ensures { result ≡ later_fault (schema_in types.now actions.now) }
 {

@@ -1,4 +1,4 @@
-// The types of every schema are well-formed: walks that show it, and do nothing else.
+// Well-formed types of every schema: walks that prove it, and do nothing else.
 ghost use Rattle.std.specs.Prelude.{◌≡◌, true, map};
 ghost use Rattle.std.specs.List.{list_all};
 ghost use Rattle.cedar_types.specs.Schemas.Declarations.{type_kind, applies, declared_type, declared_action};

@@ -1,4 +1,4 @@
-// What types tell of attributes and of entity literals, in a schema.
+// Lookups of attributes and of entity literals, in a schema.
 ghost use Rattle.std.specs.Prelude.{◌≡◌, [], ◌∷◌, IfOk, option_map, is_some};
 ghost use Rattle.std.specs.List.{list_any};
 ghost use Rattle.cedar_types.specs.Names.{text_of, type_of, uid_of};
@@ -16,8 +16,8 @@ use std::alloc::{AllocError, Global};
 use std::rc::RcStr;
 
 impl CedarType {
-    /// The attribute of a type: a record's own; of some entity types the bound of what all of them declare, required
-    /// where all require it.
+    /// The attribute of a type, if it has one. A record has its own; entity types have the bound of
+    /// the attributes that all of them declare, required if all require it.
     pub fn lookup_attribute_type(
         alloc: Global,
         schema: &ValidatorSchema,
@@ -55,8 +55,8 @@ impl CedarType {
         }
     }
 
-    /// The type of an entity literal: of an action where the schema declares it, of another entity where its type is
-    /// declared.
+    /// The type of an entity literal: of an action if the schema declares it, of another entity if
+    /// the schema declares its type, or else `None`.
     pub fn euid_literal(
         alloc: Global,
         entity: &EntityUID,
@@ -72,8 +72,8 @@ impl CedarType {
         Ok(Some(found))
     }
 
-    /// The type of the entities of this type. That of a type that the schema declares, or that its actions have, is made once, with
-    /// the schema, and shared.
+    /// The type of the entities of this type. If the schema declares this type, or one of its
+    /// actions has it, the schema makes the set of it once and shares it.
     pub fn entity_reference(
         alloc: Global,
         entity_type: &EntityType,
@@ -107,7 +107,7 @@ fn is_open_record(tag: OpenTag) -> bool
 }
 
 impl ValidatorSchema {
-    /// What all of the types declare.
+    /// The attribute that all of the types declare.
     fn types_lookup(
         &self,
         alloc: Global,
@@ -129,7 +129,7 @@ impl ValidatorSchema {
     }
 }
 
-/// What one type declares.
+/// The attribute that one type declares.
 #[tactic(auto, unfolding(crate::specs::Schemas::Contents::schema_of))]
 fn declared_lookup<'a>(
     schema: &'a ValidatorSchema,

@@ -1,4 +1,4 @@
-// Which entities may be in which.
+// Memberships of entities that a schema allows.
 ghost use Rattle.std.specs.Prelude.{◌≡◌, ◌&&◌};
 ghost use Rattle.std.specs.List.{list_any};
 ghost use Rattle.cedar_types.specs.Names.{is_action_path, type_of, path_eq};
@@ -16,9 +16,11 @@ use crate::base::types::entity_sets::EntityLUB;
 use std::collections::BTreeSet;
 
 impl ValidatorSchema {
-    /// Whether an entity of one of the types `lefts` may be in an entity of one of the types `rights`.
+    /// Whether an entity of one of the types `lefts` may be in an entity of one of the types
+    /// `rights`.
     ///
-    /// What this denies, no store that conforms to the schema has: see `memberships_are_allowed`.
+    /// A store that conforms to the schema has no membership that this call denies: see
+    /// `memberships_are_allowed`.
     pub fn any_descendent_of(&self, lefts: &EntityLUB, rights: &EntityLUB) -> bool
         ensures { result
             ≡ any_may_be_in (schema_of self.now) (lub_of lefts.now) (lub_of rights.now) }
@@ -105,9 +107,9 @@ fn are_action_types(left: &EntityType, right: &EntityType) -> bool
     left.is_action() && right.is_action()
 }
 
-/// Where a schema denies that an entity of one type may be in one of another, no store that conforms to it has such an
-/// entity with such an ancestor; this holds of actions of different namespaces too. It does nothing: what it says is its
-/// contract.
+/// If a schema denies that an entity of one type may be in one of another, no store that conforms
+/// to it has such an entity with such an ancestor; this holds for actions of different namespaces
+/// too. The function does nothing: its contract is the statement.
 pub fn memberships_are_allowed()
     ensures { MembershipsAreAllowed }
 {}

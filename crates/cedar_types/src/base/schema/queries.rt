@@ -1,4 +1,4 @@
-// What is asked of a schema.
+// Queries of a schema.
 ghost use Rattle.std.specs.Prelude.{◌≡◌, false, [], map, option_map, IfOk, OnOk};
 ghost use Rattle.std.specs.List.Sorted.{IsPermutation};
 ghost use Rattle.cedar_types.specs.Names.{type_of, uid_of, uid_eq};
@@ -31,7 +31,7 @@ impl ValidatorSchema {
         }
     }
 
-    /// The declaration of an entity type. There is none of an action's type.
+    /// The declaration of an entity type, if there is one. An action's type has none.
     pub fn get_entity_type(&self, entity_type: &EntityType) -> Option<&ValidatorEntityType>
         ensures { option_map (λ t. declared_type t.now) result
             ≡ type_named (schema_of self.now).types (type_of entity_type.now) }
@@ -39,7 +39,7 @@ impl ValidatorSchema {
         self.types.get(entity_type)
     }
 
-    /// The declaration of an action.
+    /// The declaration of an action, if there is one.
     pub fn get_action_id(&self, action_id: &EntityUID) -> Option<&ValidatorActionId>
         ensures { option_map (λ a. declared_action a.now) result
             ≡ action_named (schema_of self.now).actions (uid_of action_id.now) }
@@ -97,7 +97,8 @@ impl ValidatorSchema {
         Ok(listed)
     }
 
-    /// The entity type and its descendants, each once, in any order; the type is listed even if it is unknown.
+    /// The entity type and its descendants, each once, in any order; the type is listed even if it
+    /// is unknown.
     pub fn get_entity_types_in<'a>(
         &'a self,
         alloc: Global,
@@ -120,7 +121,8 @@ impl ValidatorSchema {
         Ok(within)
     }
 
-    /// The actions and their descendants, each once, in any order; `None` if one of the actions is not declared.
+    /// The actions and their descendants, each once, in any order; `None` if one of the actions is
+    /// not declared.
     pub fn get_actions_in_set<'a>(
         &'a self,
         alloc: Global,

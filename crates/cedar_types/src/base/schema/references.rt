@@ -1,4 +1,4 @@
-// The sets of one entity type alone, which variables, slots and literals of that type share.
+// Sets of one entity type alone, which variables, slots and literals of this type share.
 ghost use Rattle.std.specs.Prelude.{◌≡◌, [], ◌∷◌, IfOk, OnOk};
 ghost use Rattle.cedar_types.specs.Names.{type_of};
 ghost use Rattle.cedar_types.specs.Types.{lub_of};
@@ -11,7 +11,7 @@ use crate::base::types::entity_sets::EntityLUB;
 use std::alloc::{AllocError, Global};
 use std::collections::BTreeMap;
 
-/// For each entity type of a schema, and each type of its actions, the set of it alone.
+/// The set of one type alone, for each entity type of a schema and each type of its actions.
 #[derive(Debug, Drop)]
 pub(crate) struct EntityReferences {
     sets: BTreeMap<EntityType, EntityLUB>,
@@ -19,14 +19,14 @@ pub(crate) struct EntityReferences {
 }
 
 impl EntityReferences {
-    /// Those of no types.
+    /// The sets of no types.
     pub(crate) fn empty(alloc: Global) -> EntityReferences {
         EntityReferences {
             sets: BTreeMap::new(alloc),
         }
     }
 
-    /// Those of these types and of the types of these actions.
+    /// The sets of these types and of the types of these actions.
     pub(crate) fn new(
         alloc: Global,
         types: &[ValidatorEntityType],
@@ -42,7 +42,7 @@ impl EntityReferences {
         Ok(EntityReferences { sets })
     }
 
-    /// The set of this type alone: a new one, unless there is one.
+    /// The set of this type alone: the shared one, or a new one if there is none.
     pub(crate) fn set_of(&self, alloc: Global, name: &EntityType) -> Result<EntityLUB, AllocError>
         ensures { IfOk result (λ s. lub_of s ≡ type_of name.now ∷ []) }
     {

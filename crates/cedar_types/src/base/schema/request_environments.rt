@@ -1,9 +1,10 @@
-// What requests may be about.
+// Environments of requests, without slots.
 use crate::base::names::entities::{EntityType, EntityUID};
 use crate::base::types::CedarType;
 use std::rc::Rc;
 
-/// An action with one of its principal types and one of its resource types. Nothing is said of slots.
+/// An action with one of its principal types and one of its resource types. It says nothing of
+/// slots.
 #[derive(Debug, Drop)]
 pub struct UnlinkedRequestEnv {
     pub principal: EntityType,

@@ -1,4 +1,4 @@
-// The types that the slots of a template are linked to, in one environment.
+// Types that the slots of a template are linked to, in one environment.
 ghost use Rattle.std.specs.Prelude.{◌≡◌, ◌++◌, ◌∷◌, [], map, IfOk, OnOk};
 ghost use Rattle.cedar_types.specs.Names.{type_of};
 ghost use Rattle.cedar_types.specs.Templates.{scope_of};
@@ -13,8 +13,8 @@ use crate::base::templates::constraints::PrincipalOrResourceConstraint;
 use std::alloc::{AllocError, Global};
 
 impl ValidatorSchema {
-    /// The links of a slot: each type that the constraint on its variable allows, or the lone `None` where it does not
-    /// occur.
+    /// The links of a slot: each type that the constraint on its variable allows, or the lone
+    /// `None` if the slot does not occur.
     pub(crate) fn slot_links<'a>(
         &'a self,
         alloc: Global,
@@ -59,7 +59,7 @@ fn add_types<'a>(
     }
 }
 
-/// A type that is above itself is added twice.
+/// Adds the types above a type, and the type itself: a type above itself is added twice.
 #[tactic(auto, unfolding(crate::specs::Schemas::Contents::schema_of))]
 fn add_types_above_and_own<'a>(
     schema: &'a ValidatorSchema,

@@ -1,4 +1,4 @@
-// What a schema declares, found by name.
+// Declarations of a schema, found by name.
 ghost use Rattle.std.specs.Prelude.{◌≡◌, true, false, IfOk, MatchOption, map};
 ghost use Rattle.cedar_types.specs.Schemas.Tables.Places.{IsIndex, repeats_name};
 
@@ -29,7 +29,7 @@ impl<D: Declared> Table<D> {
     ghost use Rattle.std.specs.List.{list_all};
     ghost use Rattle.cedar_types.specs.Schemas.Tables.Places.{declares_name, found_by_name};
 
-    /// The table of these declarations; `None` where a name repeats.
+    /// The table of these declarations; `None` if a name repeats.
     pub(crate) fn new(alloc: Global, declared: Vec<D>) -> Result<Option<Table<D>>, AllocError>
         ensures { IfOk result (λ o. MatchOption o
             (repeats_name D.same D.called (map D.plain declared.items) ≡ true) (λ t.
@@ -42,7 +42,7 @@ impl<D: Declared> Table<D> {
         }
     }
 
-    /// The table of no declarations.
+    /// The table without declarations.
     pub(crate) fn empty(alloc: Global) -> Table<D>
         ensures { map D.plain result.declared.items ≡ [] }
     {
@@ -52,7 +52,7 @@ impl<D: Declared> Table<D> {
         }
     }
 
-    /// The declaration of this name.
+    /// The declaration of this name, if there is one.
     pub(crate) fn get(&self, name: &D::Name) -> Option<&D>
         ensures { option_map (λ d. D.plain d.now) result
             ≡ found_by_name D.same D.called (map D.plain self.now.declared.items) (D.key name.now) }
@@ -98,7 +98,7 @@ impl<D: Declared> Table<D> {
     }
 }
 
-/// The place of each declaration by its name; `None` where a name repeats.
+/// The place of each declaration by its name; `None` if a name repeats.
 fn places_of<D: Declared>(
     alloc: Global,
     declared: &[D],

@@ -1,4 +1,4 @@
-// The types that tags may have, in a schema.
+// Types that tags may have, in a schema.
 ghost use Rattle.std.specs.Prelude.{◌≡◌, ◌++◌, IfOk, map};
 ghost use Rattle.cedar_types.specs.Names.{type_of};
 ghost use Rattle.cedar_types.specs.Types.{ty_of, kind_of, lub_of};
@@ -18,8 +18,8 @@ use std::collections::BTreeSet;
 
 #[tactic(auto, unfolding(crate::specs::Schemas::Contents::schema_of))]
 impl ValidatorSchema {
-    /// The types that a tag may have, in ascending order: of some entity types those that they declare, of any entity
-    /// those that any type declares.
+    /// The types that a tag may have, in ascending order: for some entity types those that they
+    /// declare, for any entity those that any type declares.
     pub fn tag_types(
         &self,
         alloc: Global,
@@ -38,7 +38,7 @@ impl ValidatorSchema {
 
 #[tactic(auto, unfolding(crate::specs::Types::lub_of))]
 impl ValidatorSchema {
-    /// What these types declare.
+    /// The types of tags that these entity types declare.
     fn tags_of_types(&self, alloc: Global, lub: &EntityLUB) -> Result<Vec<CedarType>, AllocError>
         ensures { IfOk result (λ v.
             map ty_of v.items ≡ tags_of_types (schema_of self.now).types (lub_of lub.now)) }
@@ -51,7 +51,7 @@ impl ValidatorSchema {
     }
 }
 
-/// What any of these types declares.
+/// The types of tags that any of these entity types declares.
 fn tags_of_any(alloc: Global, types: &[ValidatorEntityType]) -> Result<Vec<CedarType>, AllocError>
     ensures { IfOk result (λ v.
         map ty_of v.items ≡ tags_of_any (map declared_type types.now)) }
@@ -63,7 +63,7 @@ fn tags_of_any(alloc: Global, types: &[ValidatorEntityType]) -> Result<Vec<Cedar
     Ok(tags)
 }
 
-/// Adds what the type of this name declares.
+/// Adds the type of tags that the entity type of this name declares.
 #[tactic(auto, unfolding(crate::specs::Schemas::Contents::schema_of))]
 fn add_declared_tags(
     schema: &ValidatorSchema,

@@ -1,4 +1,4 @@
-// Which entity types a type names, and whether it says enough for a schema.
+// Faults of types in a schema: unknown entity types, and types that say too little.
 ghost use Rattle.std.specs.Prelude.{◌≡◌};
 ghost use Rattle.cedar_types.specs.Types.{ty_of, attributes_of, kind_of};
 ghost use Rattle.cedar_types.specs.Schemas.Tables.{types_in};
@@ -28,7 +28,7 @@ pub(crate) fn type_names_known(types: &EntityTypeTable, t: &CedarType) -> bool
     }
 }
 
-/// The same of the attributes of a record.
+/// Whether each entity type that a record's attributes name, at any depth, is known.
 #[cycle(names)]
 pub(crate) fn attribute_names_known(types: &EntityTypeTable, attributes: &Attributes) -> bool
     ensures { result
@@ -51,7 +51,7 @@ fn kind_names_known(types: &EntityTypeTable, kind: &EntityKind) -> bool
     }
 }
 
-/// Whether a type says too little, at any depth.
+/// Whether a type says too little, at any depth, for example an open record.
 #[cycle(vague)]
 pub(crate) fn type_is_vague(t: &CedarType) -> bool
     ensures { result ≡ is_vague (ty_of t.now) }
@@ -109,7 +109,7 @@ fn kind_is_vague(kind: &EntityKind) -> bool
     }
 }
 
-/// Whether a type is that of records.
+/// Whether a type is a record's.
 pub(crate) fn is_record_type(t: &CedarType) -> bool
     ensures { result ≡ is_record (ty_of t.now) }
 {

@@ -1,4 +1,4 @@
-// Which entity types are known.
+// Entity types that a schema knows.
 ghost use Rattle.std.specs.Prelude.{◌≡◌};
 ghost use Rattle.std.specs.List.{list_all};
 ghost use Rattle.cedar_types.specs.Names.{type_of};

@@ -1,4 +1,4 @@
-// The condition of a template, made from its scope and its rest.
+// Conditions of templates, made from their scope and their rest.
 ghost use Rattle.std.specs.Prelude.{◌≡◌, IfOk, map, option_map};
 ghost use Rattle.cedar_types.specs.Names.{placed_type, placed_uid};
 ghost use Rattle.cedar_types.specs.Expressions.Tree.{var, and as and_tree, binary as binary_tree};
@@ -18,20 +18,20 @@ use crate::base::templates::constraints::{
 use std::alloc::{AllocError, Global};
 
 impl Template {
-    /// The condition: `((P && A) && R) && rest`, or `(P && A) && R` without a rest, where P, A and R test the principal,
-    /// the action and the resource.
+    /// The condition of the template: `((P && A) && R) && rest`, or `(P && A) && R` without a rest.
+    /// Here P, A and R test the principal, the action and the resource.
     ///
-    /// No constraint is the literal `true`; the others are `v == x`, `v in x`, `v is T`, `(v is T) && (v in x)` and
-    /// `action in [a, b]`. These nodes have the template's place.
+    /// An absent constraint becomes the literal `true`; the others become `v == x`, `v in x`,
+    /// `v is T`, `(v is T) && (v in x)` and `action in [a, b]`. These nodes have the template's
+    /// place.
     pub fn condition(&self, alloc: Global) -> Result<Expr, AllocError>
         ensures { IfOk result (λ e. written e ≡ condition_of (template_of self.now)) }
     {
         let scope = self.scope_condition(alloc)?;
-        let condition = with_rest(alloc, self.loc, scope, &self.non_scope_constraints)?;
-        Ok(condition)
+        with_rest(alloc, self.loc, scope, &self.non_scope_constraints)
     }
 
-    /// What the scope makes of the condition: `(P && A) && R`. The rest is not looked at.
+    /// The scope's part of the condition: `(P && A) && R`. The call ignores the rest.
     pub fn scope_condition(&self, alloc: Global) -> Result<Expr, AllocError>
         ensures { IfOk result (λ e. written e ≡ scope_condition (template_of self.now)) }
     {
@@ -51,8 +51,7 @@ impl Template {
             SlotId::Resource,
             &self.resource_constraint.constraint,
         )?;
-        let scope = and(alloc, loc, and(alloc, loc, principal, action)?, resource)?;
-        Ok(scope)
+        and(alloc, loc, and(alloc, loc, principal, action)?, resource)
     }
 }
 
@@ -200,7 +199,7 @@ fn and(alloc: Global, loc: Option<Loc>, left: Expr, right: Expr) -> Result<Expr,
     Ok(node(loc, ExprKind::And(left, right)))
 }
 
-/// A node that stands at the template's place.
+/// A node at the template's place.
 fn node(loc: Option<Loc>, kind: ExprKind) -> Expr
     ensures { written result ≡ kind_written loc kind }
 {

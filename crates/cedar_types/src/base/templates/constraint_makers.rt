@@ -1,4 +1,4 @@
-// Makers of the constraints of a scope. None takes memory.
+// Makers of the constraints of a scope. None allocates memory.
 ghost use Rattle.std.specs.Prelude.{◌≡◌, map};
 ghost use Rattle.cedar_types.specs.Names.{placed_type, placed_uid};
 ghost use Rattle.cedar_types.specs.Templates.{to_entity, to_slot, any, equal, within, typed, typed_within, any_action, equal_action, within_actions, scope_of, action_scope_of};

@@ -1,4 +1,4 @@
-// The constraints of a template's scope.
+// Constraints of a template's scope.
 ghost use Rattle.std.specs.Prelude.{◌≡◌, IfOk, map};
 ghost use Rattle.cedar_types.specs.Names.{placed_uid};
 ghost use Rattle.cedar_types.specs.Templates.{reference_of, scope_of, action_scope_of};
@@ -6,12 +6,12 @@ ghost use Rattle.cedar_types.specs.Templates.{reference_of, scope_of, action_sco
 use crate::base::names::entities::{EntityType, EntityUID};
 use std::alloc::{AllocError, Global};
 
-/// What a constraint names: an entity, or the slot of the variable that it constrains.
+/// The entity that a constraint names, or the slot of the variable that it constrains.
 #[derive(Debug, Drop)]
 pub enum EntityReference {
     /// This entity.
     EUID(EntityUID),
-    /// What the slot of the variable is bound to.
+    /// The entity that the slot of the variable is bound to.
     Slot,
 }
 
@@ -41,7 +41,7 @@ pub enum PrincipalOrResourceConstraint {
     IsIn(EntityType, EntityReference),
 }
 
-// By hand, so that a proof has one call where a constraint is dropped.
+// `Drop` is written by hand, so that a proof has one call for each dropped constraint.
 impl Drop for PrincipalOrResourceConstraint {
     fn drop(self) {
         match self {
@@ -100,7 +100,7 @@ pub enum ActionConstraint {
     In(Vec<EntityUID>),
 }
 
-// By hand, for the same reason.
+// `Drop` is written by hand, so that a proof has one call for each dropped constraint.
 impl Drop for ActionConstraint {
     fn drop(self) {
         match self {
@@ -112,7 +112,7 @@ impl Drop for ActionConstraint {
 }
 
 impl ActionConstraint {
-    /// A copy.
+    /// A copy of the constraint.
     pub fn try_clone(&self, alloc: Global) -> Result<ActionConstraint, AllocError>
         ensures { IfOk result (λ c. action_scope_of c ≡ action_scope_of self.now) }
     {

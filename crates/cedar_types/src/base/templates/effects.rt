@@ -1,12 +1,12 @@
-// What a policy does.
+// Effects of policies.
 use std::fmt;
 
-/// What a policy does where it is satisfied. Validation does not ask for it. It is shown as its keyword.
+/// The effect of a satisfied policy. Validation does not ask for it. `Display` writes its keyword.
 #[derive(Clone, Copy, PartialEq, Eq, Debug)]
 pub enum Effect {
-    /// It permits the request, unless another policy forbids it.
+    /// The policy permits the request, unless another policy forbids it.
     Permit,
-    /// It forbids the request, whatever is permitted.
+    /// The policy forbids the request, whatever is permitted.
     Forbid,
 }
 

@@ -1,4 +1,4 @@
-// What a template names, one occurrence after another.
+// Names in a template, one occurrence after another.
 ghost use Rattle.std.specs.Prelude.{◌≡◌, false, [], ◌∷◌, map, option_map, IfOk, MatchOption};
 ghost use Rattle.cedar_types.specs.FallibleIterators.{YieldsOrEnds, calls_left};
 ghost use Rattle.cedar_types.specs.Templates.Findings.{template_uids, template_types};
@@ -13,8 +13,8 @@ use crate::base::templates::rest_mentions::RestMentions;
 use crate::base::templates::scope_mentions::ScopeMentions;
 use std::alloc::{AllocError, Global};
 
-/// One occurrence of a name in a template: an entity id, of a literal or of the scope, or the entity type that an `is`
-/// tests for. The type of an id is a name too, which comes with the id.
+/// One occurrence of a name in a template: an entity id, of a literal or of the scope, or the
+/// entity type that an `is` tests for. The type of an id is a name too, which the id carries.
 #[derive(Clone, Copy, Debug)]
 pub enum Mention<'a> {
     /// An entity id.
@@ -34,7 +34,7 @@ impl<'a> Mention<'a> {
         }
     }
 
-    /// The entity id, where it is one.
+    /// The entity id, if the mention is one.
     pub fn uid(&self) -> Option<&'a EntityUID>
         ensures { option_map (λ u. placed_uid u.now) result ≡ mentioned_uid (mention_of self.now) }
     {
@@ -45,12 +45,13 @@ impl<'a> Mention<'a> {
     }
 }
 
-/// The names in a template, each occurrence once, in the order of its condition's subexpressions: those of the rest, of
-/// the resource, of the action and of the principal, and in each of these from the last to the first.
+/// The names in a template, each occurrence once, in the order of its condition's subexpressions:
+/// those of the rest, of the resource, of the action and of the principal, and in each of these
+/// from the last to the first.
 ///
-/// It holds no list of them. What is still to visit of the rest lies on the heap, so the caller's stack does not grow
-/// with its depth. Where memory for that is refused, an `AllocError` comes once; after it, and after the last name,
-/// only `None`.
+/// The iterator holds no list of them. The parts of the rest still to visit lie on the heap, so the
+/// caller's stack does not grow with the depth of the rest. If memory for them is refused, the
+/// iterator yields one `AllocError`; after it, and after the last name, only `None`.
 #[derive(Drop)]
 pub struct Mentions<'a> {
     rest: RestMentions<'a>,
@@ -92,8 +93,9 @@ impl<'a> Mentions<'a> {
 }
 
 impl Template {
-    /// The names in the scope's constraints and in the rest: entity ids, and the types that an `is` tests for. It takes
-    /// no memory. The original walks over ids and over type names, each in a function of its own.
+    /// The names in the scope's constraints and in the rest: entity ids, and the types that an `is`
+    /// tests for. The call allocates no memory. The original walks over ids and over type names,
+    /// each in a function of its own.
     #[tactic(auto, unfolding(crate::specs::Templates::MentionViews::mentions_left, crate::specs::Templates::MentionViews::mentions_are_over))]
     pub fn mentions(&self, alloc: Global) -> Mentions<'_>
         ensures begun { mentions_are_over result ≡ false }
@@ -106,10 +108,11 @@ impl Template {
         }
     }
 
-    /// The entity ids in the scope's constraints and in the rest, each as often as it occurs; the original's function
-    /// `policy_entity_uids`.
+    /// The entity ids in the scope's constraints and in the rest, each as often as it occurs; the
+    /// original's function `policy_entity_uids`.
     ///
-    /// An `AllocError` comes where memory for the list is refused, or for what is still to visit of the rest.
+    /// If memory is refused for the list, or for the parts of the rest still to visit, the answer
+    /// is an `AllocError`.
     pub fn policy_entity_uids(&self, alloc: Global) -> Result<Vec<&EntityUID>, AllocError>
         ensures { IfOk result (λ v.
             map (λ u. placed_uid u.now) v.items ≡ template_uids (template_of self.now)) }
@@ -123,10 +126,12 @@ impl Template {
         Ok(uids)
     }
 
-    /// The types of the entity ids in the scope's constraints and in the rest, and the types that an `is` tests for, each
-    /// as often as it occurs; the original's function `policy_entity_type_names`.
+    /// The types of the entity ids in the scope's constraints and in the rest, and the types that
+    /// an `is` tests for, each as often as it occurs; the original's function
+    /// `policy_entity_type_names`.
     ///
-    /// An `AllocError` comes where memory for the list is refused, or for what is still to visit of the rest.
+    /// If memory is refused for the list, or for the parts of the rest still to visit, the answer
+    /// is an `AllocError`.
     pub fn policy_entity_type_names(&self, alloc: Global) -> Result<Vec<&EntityType>, AllocError>
         ensures { IfOk result (λ v.
             map (λ t. placed_type t.now) v.items ≡ template_types (template_of self.now)) }

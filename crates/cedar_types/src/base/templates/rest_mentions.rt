@@ -1,4 +1,4 @@
-// What the rest of a template names.
+// Names in the rest of a template.
 ghost use Rattle.std.specs.Prelude.{◌≡◌, [], ◌∷◌, IfOk, MatchOption, option_map};
 ghost use Rattle.cedar_types.specs.Templates.Mentions.{own_mention, rest_mentions};
 ghost use Rattle.cedar_types.specs.Templates.MentionViews.{mention_of, named_by_left, rest_to_come};
@@ -10,7 +10,8 @@ use crate::base::expressions::{Expr, ExprKind};
 use crate::base::templates::mentions::Mention;
 use std::alloc::{AllocError, Global};
 
-/// What the rest of a template names and has still to give. Nothing is on the heap before the first call.
+/// The names in the rest of a template that are still to come. Nothing is on the heap before the
+/// first call.
 #[derive(Drop)]
 pub(crate) struct RestMentions<'a> {
     alloc: Global,
@@ -29,7 +30,7 @@ impl<'a> RestMentions<'a> {
         }
     }
 
-    /// The next one; `None` after the last.
+    /// The next name; `None` after the last.
     pub(crate) fn next_mention(&mut self) -> Result<Option<Mention<'a>>, AllocError>
         ensures { IfOk result (λ o. MatchOption o
             ((rest_to_come self.old ≡ []) × (rest_to_come self.new ≡ []))
@@ -45,7 +46,7 @@ impl<'a> RestMentions<'a> {
     }
 }
 
-/// The next one of these expressions; `None` where no more of them names anything.
+/// The next name in these expressions; `None` if none of them names anything more.
 fn next_of_parts<'a>(parts: &mut ExprIterator<'a>) -> Result<Option<Mention<'a>>, AllocError>
     ensures { IfOk result (λ o. MatchOption o
         ((named_by_left parts.old ≡ []) × (named_by_left parts.new ≡ []))
@@ -59,7 +60,7 @@ fn next_of_parts<'a>(parts: &mut ExprIterator<'a>) -> Result<Option<Mention<'a>>
     Ok(None)
 }
 
-/// What the expression itself names.
+/// The name at the expression itself, if it has one.
 fn own_mention(expr: &Expr) -> Option<Mention<'_>>
     ensures { option_map mention_of result ≡ own_mention (written expr.now) }
 {

@@ -1,4 +1,4 @@
-// What the scope of a template names.
+// Names in the scope of a template.
 ghost use Rattle.std.specs.Prelude.{◌≡◌, [], ◌∷◌, ◌++◌, map, option_map, MatchOption};
 ghost use Rattle.std.specs.Option.{option_to_list};
 ghost use Rattle.cedar_types.specs.Templates.Mentions.{named_uid, reference_mentions, scope_mentions, named_actions, action_mentions};
@@ -13,7 +13,7 @@ use crate::base::templates::constraints::{
 };
 use crate::base::templates::mentions::Mention;
 
-/// What a constraint on the principal or on the resource names and has still to give.
+/// The names in a constraint on the principal or on the resource that are still to come.
 #[derive(Drop)]
 pub(crate) struct ConstraintMentions<'a> {
     pub(crate) uid: Option<&'a EntityUID>,
@@ -34,7 +34,7 @@ impl<'a> ConstraintMentions<'a> {
         ConstraintMentions { uid, entity_type }
     }
 
-    /// The entity, and then the type.
+    /// The next name: the entity's, and then the type's; `None` after the last.
     fn next_mention(&mut self) -> Option<Mention<'a>>
         ensures { MatchOption result
             ((constraint_left self.old ≡ []) × (constraint_left self.new ≡ []))
@@ -50,11 +50,11 @@ impl<'a> ConstraintMentions<'a> {
     }
 }
 
-/// What the scope of a template names and has still to give.
+/// The names in the scope of a template that are still to come.
 #[derive(Drop)]
 pub(crate) struct ScopeMentions<'a> {
     pub(crate) resource: ConstraintMentions<'a>,
-    /// The last comes first.
+    /// The actions still to come, the last one first.
     pub(crate) actions: &'a [EntityUID],
     pub(crate) principal: ConstraintMentions<'a>,
 }
@@ -73,7 +73,8 @@ impl<'a> ScopeMentions<'a> {
         }
     }
 
-    /// Those of the resource, of the action and of the principal, one after another.
+    /// The next name, first of the resource, then of the action, then of the principal; `None`
+    /// after the last.
     pub(crate) fn next_mention(&mut self) -> Option<Mention<'a>>
         ensures { MatchOption result
             ((scope_left self.old ≡ []) × (scope_left self.new ≡ []))
@@ -90,7 +91,7 @@ impl<'a> ScopeMentions<'a> {
     }
 }
 
-/// The entity that a constraint names, where it names no slot.
+/// The entity that a constraint names, if it names no slot.
 fn named_uid(reference: &EntityReference) -> Option<&EntityUID>
     ensures { option_to_list (option_map (λ u. named_uid (placed_uid u.now)) result)
         ≡ reference_mentions (reference_of reference.now) }

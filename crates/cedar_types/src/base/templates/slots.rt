@@ -1,16 +1,19 @@
-// Which slots occur in a template.
+// Slots that occur in a template.
 ghost use Rattle.std.specs.Prelude.{◌≡◌, IfOk};
+ghost use Rattle.cedar_types.specs.declared.base.names.slots.SlotId.{SlotId};
 ghost use Rattle.cedar_types.specs.Environments.Linking.{is_slot as reference_is_slot, names_slot as constraint_names_slot, has_slot};
 ghost use Rattle.cedar_types.specs.Expressions.Parts.{mentions_slot};
 ghost use Rattle.cedar_types.specs.Templates.{template_of, scope_of, reference_of, scope_condition};
 
+use crate::base::expressions::subexpressions::MentionedSlots;
 use crate::base::names::slots::SlotId;
 use crate::base::templates::Template;
 use crate::base::templates::constraints::{EntityReference, PrincipalOrResourceConstraint};
 use std::alloc::{AllocError, Global};
 
 impl Template {
-    /// Whether the slot occurs in the scope or in the rest. Where memory is refused, the answer is an `AllocError`.
+    /// Whether the slot occurs in the scope or in the rest. If memory is refused, the answer is an
+    /// `AllocError`.
     pub fn mentions_slot(&self, alloc: Global, slot: SlotId) -> Result<bool, AllocError>
         ensures { IfOk result (λ b. b ≡ has_slot slot (template_of self.now)) }
     {
@@ -20,6 +23,31 @@ impl Template {
         match &self.non_scope_constraints {
             None => Ok(false),
             Some(rest) => rest.mentions_slot(alloc, slot),
+        }
+    }
+
+    /// Which slots occur in the scope or in the rest, which is walked over once. If memory is refused,
+    /// the answer is an `AllocError`.
+    pub(crate) fn mentioned_slots(&self, alloc: Global) -> Result<MentionedSlots, AllocError>
+        ensures principal { IfOk result (λ s.
+            s.principal ≡ has_slot SlotId.Principal (template_of self.now)) }
+        ensures resource { IfOk result (λ s.
+            s.resource ≡ has_slot SlotId.Resource (template_of self.now)) }
+    {
+        let principal = self.scope_mentions_slot(SlotId::Principal);
+        let resource = self.scope_mentions_slot(SlotId::Resource);
+        match &self.non_scope_constraints {
+            None => Ok(MentionedSlots {
+                principal,
+                resource,
+            }),
+            Some(rest) => {
+                let in_rest = rest.mentioned_slots(alloc)?;
+                Ok(MentionedSlots {
+                    principal: principal | in_rest.principal,
+                    resource: resource | in_rest.resource,
+                })
+            }
         }
     }
 

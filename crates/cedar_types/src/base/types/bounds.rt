@@ -31,7 +31,7 @@ impl CedarType {
     }
 }
 
-/// The bound of two types: where they differ, and the second is not Never, by the form of the first.
+/// The bound of two types: if they differ and the second is not Never, by the form of the first.
 #[cycle(bound)]
 fn bound(
     alloc: Global,
@@ -137,7 +137,8 @@ fn records_bound(
     }
 }
 
-/// The attributes of the bound of two closed records in Strict, if each has a bound.
+/// The attributes of the bound of two closed records in Strict, if both have the same names and
+/// marks, and each attribute has a bound.
 #[cycle(bound)]
 fn both_attributes(
     alloc: Global,
@@ -168,7 +169,7 @@ fn both_attributes(
     Ok(Some(all))
 }
 
-/// The attributes of two records that have a bound.
+/// The attributes that two records share and whose types have a bound.
 #[cycle(bound)]
 fn common_attributes(
     alloc: Global,
@@ -191,7 +192,8 @@ fn common_attributes(
 }
 
 impl Attributes {
-    /// The attributes of both that have a bound in Permissive, each required where both require it.
+    /// The attributes that both share and whose types have a bound in Permissive, each required if
+    /// both require it.
     pub(crate) fn in_common(
         alloc: Global,
         xs: &Attributes,

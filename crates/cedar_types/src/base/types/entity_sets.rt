@@ -8,7 +8,7 @@ use std::alloc::{AllocError, Global};
 use std::collections::btree_set::{self, BTreeSet};
 use std::rc::Rc;
 
-/// Some entity types: a value has one of them. There is always at least one.
+/// A set of entity types, never empty: a value has one of them.
 #[derive(PartialEq, Eq, PartialOrd, Ord, Hash, Debug, Drop)]
 pub struct EntityLUB {
     pub(crate) lub_elements: Rc<BTreeSet<EntityType>>,
@@ -50,7 +50,7 @@ impl EntityLUB {
         EntityLUB::of_members(alloc, types)
     }
 
-    /// The set of these types, if there is one.
+    /// The set of these types; `None` if there are none.
     pub fn from_types(
         alloc: Global,
         types: BTreeSet<EntityType>,
@@ -81,14 +81,14 @@ impl EntityLUB {
         self.lub_elements.iter()
     }
 
-    /// Whether this type is one of them.
+    /// Whether this type is in the set.
     pub fn contains_entity_type(&self, entity_type: &EntityType) -> bool
         ensures { result ≡ list_any (path_eq (type_of entity_type.now)) (lub_of self.now) }
     {
         self.lub_elements.contains(entity_type)
     }
 
-    /// The type, if there is no other.
+    /// The only type of the set; `None` if it has several.
     pub fn get_single_entity(&self) -> Option<&EntityType>
         ensures { option_map (λ t. type_of t.now) result ≡ sole (lub_of self.now) }
     {
@@ -100,7 +100,7 @@ impl EntityLUB {
         }
     }
 
-    /// The types of both.
+    /// The union of both sets.
     pub fn least_upper_bound(
         &self,
         alloc: Global,
@@ -112,7 +112,7 @@ impl EntityLUB {
         EntityLUB::of_members(alloc, all)
     }
 
-    /// The types of both. This set ends in it, and is copied only where it is shared.
+    /// The union of both sets. The call consumes this set, and copies it only if it is shared.
     pub(crate) fn into_union(
         self,
         alloc: Global,
@@ -126,7 +126,7 @@ impl EntityLUB {
         Ok(united)
     }
 
-    /// Whether no type is in both.
+    /// Whether no type is in both sets.
     pub fn is_disjoint(&self, other: &EntityLUB) -> bool
         ensures { result ≡ not (share_member (lub_of self.now) (lub_of other.now)) }
     {

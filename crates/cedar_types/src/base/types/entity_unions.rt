@@ -10,7 +10,7 @@ use crate::base::types::entity_sets::EntityLUB;
 use std::alloc::AllocError;
 use std::collections::BTreeSet;
 
-/// The types of both sets.
+/// The union of both sets.
 pub(crate) fn union_of(
     xs: &BTreeSet<EntityType>,
     ys: &BTreeSet<EntityType>,
@@ -22,7 +22,7 @@ pub(crate) fn union_of(
     Ok(all)
 }
 
-/// The types of both sets, of which the first ends in it.
+/// The union of both sets. The call consumes the first.
 pub(crate) fn add_types(
     xs: BTreeSet<EntityType>,
     ys: &BTreeSet<EntityType>,

@@ -59,7 +59,7 @@ impl CedarType {
         CedarType::AnySet
     }
 
-    /// The type of records with these attributes, which may have others where it is open.
+    /// The type of records with these attributes; an open one allows other attributes too.
     pub fn record_with_attributes(attributes: Attributes, is_open: OpenTag) -> CedarType
         ensures { ty_of result ≡ TRecord (attributes_of attributes) (is_open_tag is_open) }
     {
@@ -107,7 +107,7 @@ impl CedarType {
 }
 
 impl AttributeType {
-    /// An attribute of this type, which is always there where it is required.
+    /// An attribute of this type, which is always present if `is_required`.
     pub fn new(attr_type: CedarType, is_required: bool) -> AttributeType
         ensures { attribute_of result ≡ (ty_of attr_type, is_required) }
     {
@@ -117,14 +117,14 @@ impl AttributeType {
         }
     }
 
-    /// An attribute of this type that is always there.
+    /// An attribute of this type that is always present.
     pub fn required_attribute(attr_type: CedarType) -> AttributeType
         ensures { attribute_of result ≡ (ty_of attr_type, true) }
     {
         AttributeType::new(attr_type, true)
     }
 
-    /// An attribute of this type that may not be there.
+    /// An attribute of this type that may be absent.
     pub fn optional_attribute(attr_type: CedarType) -> AttributeType
         ensures { attribute_of result ≡ (ty_of attr_type, false) }
     {

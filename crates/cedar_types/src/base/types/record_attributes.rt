@@ -1,4 +1,4 @@
-// The attributes of record types, made and asked.
+// Attributes of record types: their makers and their lookup.
 ghost use Rattle.std.specs.Prelude.{◌≡◌, IfOk, map, option_map};
 ghost use Rattle.cedar_types.specs.Names.{text_of};
 ghost use Rattle.cedar_types.specs.Types.{ty_of, attributes_of, entries_of, no_attrs};
@@ -11,7 +11,7 @@ use std::collections::BTreeMap;
 use std::rc::{Rc, RcStr};
 
 impl Attributes {
-    /// These attributes.
+    /// The attributes of this map.
     pub fn with_attributes(
         alloc: Global,
         attrs: BTreeMap<RcStr, AttributeType>,
@@ -23,7 +23,7 @@ impl Attributes {
         })
     }
 
-    /// The attributes of this list. A later one comes in place of an earlier one of its name.
+    /// The attributes of this list. A later entry replaces an earlier one of its name.
     pub fn from_list(
         alloc: Global,
         listed: Vec<(&str, AttributeType)>,

@@ -1,4 +1,4 @@
-// What the bounds of records are made of.
+// Parts of the bounds of records: tags, marks and attributes.
 ghost use Rattle.std.specs.Prelude.{◌≡◌, ◌++◌, ◌∷◌, [], ◌&&◌, ◌||◌, not, nat_eq, IfOk, OnOk};
 ghost use Rattle.std.specs.declared.cmp.Ordering.TheVariants.{Less};
 ghost use Rattle.std.specs.List.{AllByRecursion};
@@ -31,7 +31,8 @@ fn open_tag(is_open: bool) -> OpenTag
     }
 }
 
-/// Whether a record is open that has so many attributes of two others.
+/// The tag of the bound of two records: open if one of them is open, or if the number of its
+/// attributes is not that of both.
 pub(crate) fn wide_tag(o: OpenTag, p: OpenTag, xs: usize, ys: usize, all: usize) -> OpenTag
     ensures { is_open_tag result
         ≡ (is_open_tag o || is_open_tag p || not (nat_eq all xs && nat_eq all ys)) }
@@ -46,14 +47,14 @@ pub(crate) fn is_same_attribute(k: &RcStr, r: bool, l: &RcStr, q: bool) -> bool
     *k == *l && r == q
 }
 
-/// Whether both hold.
+/// Whether both flags hold.
 pub(crate) fn both(a: bool, b: bool) -> bool
     ensures { result ≡ (a && b) }
 {
     a && b
 }
 
-/// The record of these attributes.
+/// The type of records with these attributes.
 pub(crate) fn record_type(
     alloc: Global,
     all: BTreeMap<RcStr, AttributeType>,
@@ -70,7 +71,7 @@ pub(crate) fn record_type(
     })
 }
 
-/// Adds an attribute whose name is above those that are there.
+/// Adds an attribute whose name is above all names in the map.
 pub(crate) fn push_attribute(
     all: &mut BTreeMap<RcStr, AttributeType>,
     key: &RcStr,

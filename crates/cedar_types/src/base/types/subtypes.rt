@@ -1,4 +1,4 @@
-// What rests on the bounds of types: bounds of lists, subtypes. Disjointness of types.
+// Bounds of lists of types, subtypes, and disjointness of types.
 ghost use Rattle.std.specs.Prelude.{◌≡◌, IfOk, IfSome, option_map, map};
 ghost use Rattle.cedar_types.specs.Types.{ty_of, lub_of, TEntity};
 ghost use Rattle.cedar_types.specs.Types.Bounds.{lub, fold_lub, list_lub, is_subtype, are_disjoint};
@@ -25,7 +25,8 @@ impl CedarType {
         }
     }
 
-    /// Whether the first type is a subtype of the second in a mode: whether their bound is the second.
+    /// Whether the first type is a subtype of the second in a mode: whether their bound is the
+    /// second.
     pub fn is_subtype(
         alloc: Global,
         ty0: &CedarType,
@@ -80,8 +81,9 @@ fn fold_bound(
     Ok(Some(bound))
 }
 
-/// The bound of two types, of which the owned one ends in it: some entity types that are held nowhere else take the others in,
-/// and so do those of members of sets. The recursion goes down the other type, which therefore comes first.
+/// The bound of two types, which consumes the owned one: a set of entity types with no other holder
+/// takes the other set in, and so does the set of entity types of a set's members. The other type
+/// comes first, because the recursion goes down it.
 fn bound_with(
     alloc: Global,
     ty: &CedarType,
@@ -106,7 +108,7 @@ fn bound_with(
 }
 
 impl CedarType {
-    /// What `bound_with` gives of types that are not two sets.
+    /// The answer of `bound_with` for types that are not two sets.
     fn flat_bound_with(
         self,
         alloc: Global,
@@ -128,15 +130,12 @@ impl CedarType {
                 let all = types.into_union(alloc, others)?;
                 Ok(Some(CedarType::of_entity_types(all)))
             }
-            Err(bound) => {
-                let next = CedarType::least_upper_bound(alloc, &bound, ty, mode)?;
-                Ok(next)
-            }
+            Err(bound) => { CedarType::least_upper_bound(alloc, &bound, ty, mode) }
         }
     }
 }
 
-/// The entity types whose entities have this type, if it is such a type.
+/// The entity types whose entities have this type, if it names some.
 fn entity_types(ty: &CedarType) -> Option<&EntityLUB>
     ensures { IfSome result (λ s. ty_of ty.now ≡ TEntity (lub_of s.now)) }
 {

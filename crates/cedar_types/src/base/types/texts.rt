@@ -1,4 +1,4 @@
-// How types are shown.
+// Displays of types.
 use crate::base::types::entity_sets::EntityLUB;
 use crate::base::types::{AttributeType, Attributes, BoolType, CedarType, EntityKind, OpenTag};
 use std::fmt;
@@ -57,7 +57,7 @@ impl fmt::Display for CedarType {
     }
 }
 
-/// The attributes of a record in braces, and two dots as the last item if others may be there.
+/// Writes the attributes of a record in braces, and two dots as the last item if it is open.
 #[cycle(shown)]
 fn write_record<W: fmt::Write>(
     attributes: &Attributes,
@@ -80,7 +80,7 @@ fn write_record<W: fmt::Write>(
     }
 }
 
-/// The name of an attribute, with a question mark if the attribute is optional, and its type.
+/// Writes the name of an attribute, a question mark if it is optional, and its type.
 #[cycle(shown)]
 fn write_attribute<W: fmt::Write>(
     name: &RcStr,

@@ -1,4 +1,4 @@
-// Expressions with accesses that no policy has to hold, and capabilities' own expressions.
+// Chains of accesses on a policy's or a capability's expression; no policy has to hold the chain.
 ghost use Rattle.std.specs.Prelude.{◌≡◌, [], MatchOption};
 ghost use Rattle.cedar_types.specs.Accesses.{spine, spine_at, push, spine_cmp};
 ghost use Rattle.cedar_types.specs.Names.{text_of};
@@ -7,7 +7,7 @@ use crate::base::{Expr, ExprKind};
 use std::cmp::Ordering;
 use std::rc::RcStr;
 
-/// An expression, and attributes that are taken of it one after the other: `e`, `e.x`, `e.x.y`.
+/// An expression with attribute accesses one after the other: for example `e`, `e.x` or `e.x.y`.
 #[derive(Clone, Copy, Debug)]
 pub struct Accesses<'a> {
     pub base: &'a Expr,
@@ -20,7 +20,7 @@ impl<'a> Accesses<'a> {
     ghost use Rattle.cedar_types.specs.Accesses.{shape_at, texts_at};
     ghost use Rattle.cedar_types.specs.Expressions.View.{shape};
 
-    /// The expression itself.
+    /// The expression `base`, with no further access.
     pub(crate) fn none(base: &'a Expr) -> Accesses<'a>
         ensures base { result.base.now ≡ base.now }
         ensures texts { texts_at result ≡ [] }
@@ -34,7 +34,8 @@ impl<'a> Accesses<'a> {
         }
     }
 
-    /// The last access: its attribute, and what it is of.
+    /// The last access: its attribute, and the expression that it applies to. `None` if there is no
+    /// access.
     fn last(&self) -> Option<(&'a RcStr, Accesses<'a>)>
         ensures { MatchOption result
             (spine_at self.now ≡ ([], self.now.base.now))
@@ -58,7 +59,7 @@ impl<'a> Accesses<'a> {
     }
 }
 
-/// What an expression is an access of, if it is one, and of which attribute.
+/// The owner and the attribute of `e`, if `e` is an access.
 fn access(e: &Expr) -> Option<(&Expr, &RcStr)>
     ensures { MatchOption result
         (spine e.now ≡ ([], e.now))
@@ -70,7 +71,8 @@ fn access(e: &Expr) -> Option<(&Expr, &RcStr)>
     }
 }
 
-/// How two expressions compare: by their accesses from the last to the first, then by what these are taken of.
+/// Compares two expressions: by their accesses from the last to the first, then by the expressions
+/// under these.
 pub(crate) fn compare(left: &Accesses<'_>, right: &Accesses<'_>) -> Ordering
     ensures { result ≡ spine_cmp (spine_at left.now) (spine_at right.now) }
 {

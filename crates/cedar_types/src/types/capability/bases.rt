@@ -1,4 +1,4 @@
-// Expressions that attributes are asked of.
+// Expressions that typing asks for attributes.
 ghost use Rattle.std.specs.Option.{ForSome};
 ghost use Rattle.std.specs.Prelude.{◌≡◌, IfOk};
 ghost use Rattle.cedar_types.specs.Accesses.{got};
@@ -13,10 +13,12 @@ use crate::types::capability::digests::{shape_digest, with_text};
 use std::alloc::AllocError;
 use std::rc::RcStr;
 
-/// An expression that attributes are asked of, with the digest of its shape once one was.
+/// An expression that typing asks for attributes, with its shape's digest from the first question
+/// on.
 ///
-/// The digest of an access is one step from that of its base. So a chain of accesses is walked once for its digests, however many
-/// of its attributes are asked, and not at all where none is.
+/// The digest of an access is one step from that of its base. So one walk gives the digests of a
+/// chain of accesses, for any number of attributes that are asked for; without a question there is
+/// no walk.
 #[derive(Clone, Copy, Debug)]
 pub struct DigestedBase<'a> {
     base: &'a Expr,
@@ -28,7 +30,7 @@ pub struct DigestedBase<'a> {
 impl<'a> DigestedBase<'a> {
     ghost use Rattle.cedar_types.specs.Capability.{attribute, cap_of, expr_in};
 
-    /// An expression of which nothing was asked yet.
+    /// An expression that was not asked for an attribute yet.
     pub fn new(base: &'a Expr) -> DigestedBase<'a>
         ensures { expr_in result ≡ base.now }
     {
@@ -42,7 +44,7 @@ impl<'a> DigestedBase<'a> {
         self.base
     }
 
-    /// `whole`, which is the access to this attribute of the expression.
+    /// The base for `whole`, which must be the access to `attr` of this expression.
     pub fn access(self, whole: &'a Expr, attr: &RcStr) -> DigestedBase<'a>
         requires { shape whole.now ≡ got (shape (expr_in self)) (text_of attr.now) }
         ensures { expr_in result ≡ whole.now }
@@ -57,8 +59,8 @@ impl<'a> DigestedBase<'a> {
         }
     }
 
-    /// That the expression has the attribute. Where the digest is not known yet, that walks the expression. Where memory is
-    /// refused, the answer is an `AllocError`.
+    /// The capability that the expression has the attribute `attr`. If the digest is not known yet,
+    /// the call walks the expression. If memory is refused, the answer is an `AllocError`.
     pub fn attribute(&mut self, attr: &RcStr) -> Result<Capability<'a>, AllocError>
         ensures of_it { IfOk result (λ c.
             cap_of c ≡ attribute (shape (expr_in self.old)) (text_of attr.now)) }

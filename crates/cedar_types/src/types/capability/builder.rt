@@ -1,4 +1,4 @@
-// Sets of capabilities that are made one capability after another.
+// A builder of capability sets, which takes one capability after another.
 ghost use Rattle.std.specs.Prelude.{◌≡◌, IfOk, OnOk, OnErr};
 ghost use Rattle.cedar_types.specs.Capability.{cap_of, caps, caps_so_far, HasNone, AddsJust, IsSame};
 
@@ -7,14 +7,15 @@ use crate::types::sorted_set::SortedSet;
 use std::alloc::{AllocError, Global};
 use std::collections::BTreeSet;
 
-/// What makes a set of capabilities, one after another. To add one moves few of the others, however many they are.
+/// A builder of a capability set, one capability after another. An insertion moves few of the
+/// others, however many there are.
 #[derive(Drop, Debug)]
 pub struct CapabilitySetBuilder<'a> {
     set: BTreeSet<Capability<'a>>,
 }
 
 impl<'a> CapabilitySetBuilder<'a> {
-    /// None so far. It takes no memory.
+    /// A builder with no capability. It takes no memory.
     pub fn new(alloc: Global) -> CapabilitySetBuilder<'a>
         ensures { HasNone (caps_so_far result) }
     {
@@ -23,14 +24,15 @@ impl<'a> CapabilitySetBuilder<'a> {
         }
     }
 
-    /// Whether it is among them.
+    /// Whether `c` is among the capabilities so far.
     pub fn contains(&self, c: &Capability<'a>) -> bool
         ensures { result ≡ caps_so_far self.now (cap_of c.now) }
     {
         self.set.contains(c)
     }
 
-    /// Adds a capability. Where memory is refused, the answer is an `AllocError`, and all is as it was.
+    /// Adds a capability. If memory is refused, the answer is an `AllocError`, and the builder
+    /// stays as it was.
     pub fn insert(&mut self, c: Capability<'a>) -> Result<(), AllocError>
         ensures added { OnOk result (
             AddsJust (cap_of c.entry) (caps_so_far self.old) (caps_so_far self.new)) }
@@ -40,7 +42,8 @@ impl<'a> CapabilitySetBuilder<'a> {
         Ok(())
     }
 
-    /// The set of them, without a copy. Where memory is refused, the answer is an `AllocError`.
+    /// The set of the capabilities so far, without a copy. If memory is refused, the answer is an
+    /// `AllocError`.
     pub fn build(self, alloc: Global) -> Result<CapabilitySet<'a>, AllocError>
         ensures { IfOk result (λ r. IsSame (caps_so_far self.entry) (caps r)) }
     {

@@ -11,10 +11,10 @@ use crate::types::capability::digests::{shape_digest, with_text};
 use std::alloc::{AllocError, Global};
 use std::rc::RcStr;
 
-/// One step of `base has x.y.z`: that `base` has `x`, or `base.x` has `y`, or `base.x.y` has `z`.
+/// One step of `base has x.y.z`: `base` has `x`, or `base.x` has `y`, or `base.x.y` has `z`.
 ///
-/// It borrows the base and the attributes, and makes none of these accesses. Going to the next step takes no memory, and as
-/// much time wherever the step stands.
+/// The step borrows the base and the attributes, and builds no access. Moving to the next step
+/// takes no memory, and its time does not depend on the position in the chain.
 #[derive(Clone, Copy, Debug)]
 pub struct ChainStep<'a> {
     on: Accesses<'a>,
@@ -34,7 +34,7 @@ impl<'a> ChainStep<'a> {
     ghost use Rattle.cedar_types.specs.ChainSteps.{step_written, step_shape, step_attr, steps_left, made_up};
     ghost use Rattle.cedar_types.specs.Expressions.View.{chain_of, written};
 
-    /// That the base has the first attribute.
+    /// The first step: `base` has the first of `attrs`.
     pub fn first(base: &'a Expr, attrs: &'a AttrChain) -> ChainStep<'a>
         ensures of_base { step_written result ≡ written base.now }
         ensures attr { step_attr result ≡ (chain_of attrs.now).0 }
@@ -49,7 +49,7 @@ impl<'a> ChainStep<'a> {
         }
     }
 
-    /// The step after this one, if it is not the last: of what this one has found.
+    /// The step after this one, on the access that this step finds; `None` after the last step.
     pub fn next(&self) -> Option<ChainStep<'a>>
         ensures { MatchOption result
             (steps_left self.now ≡ [])
@@ -72,14 +72,14 @@ impl<'a> ChainStep<'a> {
         })
     }
 
-    /// The attribute.
+    /// The attribute that the step asks for.
     pub fn attr(&self) -> &'a RcStr
         ensures { text_of result.now ≡ step_attr self.now }
     {
         self.attr
     }
 
-    /// That what the step is of has the attribute.
+    /// The capability that the step's expression has the attribute.
     pub fn capability(&self) -> Result<Capability<'a>, AllocError>
         ensures { IfOk result (λ c.
             cap_of c ≡ attribute (step_shape self.now) (step_attr self.now)) }

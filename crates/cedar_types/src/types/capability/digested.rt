@@ -11,17 +11,20 @@ use crate::types::entries::Entry;
 use std::alloc::{AllocError, Global};
 use std::rc::RcStr;
 
-/// What is known to be there: an attribute by its name, or a tag by the expression that gives its name.
+/// The member that is known to be present: an attribute by its name, or a tag by the expression
+/// that gives its name.
 #[derive(PartialEq, Eq, PartialOrd, Ord, Drop, Debug)]
 pub enum Known<'a> {
     Attribute(RcStr),
     Tag(ExprShapeOnly<'a>),
 }
 
-/// That an expression has an attribute or a tag. It counts by shapes: places never do, nor who owns the expressions.
+/// A capability: an expression has an attribute or a tag. Comparisons read shapes alone, neither
+/// places nor the owner of an expression.
 ///
-/// It carries a digest of its shape, which is made without taking memory. Its order is that of the digests, and where these
-/// are equal that of the whole shapes. So two shapes of one digest stay two capabilities.
+/// A capability carries a digest of its shape, which is computed without memory. Capabilities are
+/// ordered by their digests, and by their whole shapes if these are equal. So two shapes of one
+/// digest stay two capabilities.
 #[derive(PartialEq, Eq, PartialOrd, Ord, Drop, Debug)]
 pub struct Capability<'a> {
     digest: u64,
@@ -39,7 +42,7 @@ impl<'a> Capability<'a> {
     ghost use Rattle.cedar_types.specs.Capability.Digest.{with_text, shape_digest};
     ghost use Rattle.cedar_types.specs.Expressions.ShapeOnly.{shape_of};
 
-    /// That `on_expr` has the attribute `attr`.
+    /// The capability that `on_expr` has the attribute `attr`.
     pub fn new_attribute(on_expr: &'a Expr, attr: RcStr) -> Capability<'a>
         ensures { cap_of result ≡ attribute (shape on_expr.now) (text_of attr) }
     {
@@ -47,7 +50,7 @@ impl<'a> Capability<'a> {
         Capability::of_accesses(Accesses::none(on_expr), attr, digest)
     }
 
-    /// The same of an expression that the capability owns.
+    /// The capability that `on_expr`, which it owns, has the attribute `attr`.
     pub fn new_attribute_owned(on_expr: Expr, attr: RcStr) -> Capability<'a>
         ensures { cap_of result ≡ attribute (shape on_expr) (text_of attr) }
     {
@@ -58,7 +61,8 @@ impl<'a> Capability<'a> {
         }
     }
 
-    /// The same of an expression with these accesses, by the digest of all.
+    /// The capability that `on` has the attribute `attr`. You must pass the digest of both
+    /// together.
     pub(crate) fn of_accesses(on: Accesses<'a>, attr: RcStr, digest: u64) -> Capability<'a>
         requires { digest ≡ with_text (shape_digest (shape_at on)) (text_of attr) }
         ensures { cap_of result ≡ attribute (shape_at on.entry) (text_of attr) }
@@ -70,14 +74,14 @@ impl<'a> Capability<'a> {
         }
     }
 
-    /// That `on_expr` has the tag whose name `name` gives.
+    /// The capability that `on_expr` has the tag whose name `name` gives.
     pub fn new_borrowed_tag(on_expr: &'a Expr, name: &'a Expr) -> Capability<'a>
         ensures { cap_of result ≡ tag (shape on_expr.now) (shape name.now) }
     {
         Capability::of_tag(on_expr, ExprShapeOnly::Borrowed(name))
     }
 
-    /// The same with a name that the capability owns.
+    /// The capability that `on_expr` has the tag whose name `name` gives; it owns `name`.
     pub fn new_owned_tag(on_expr: &'a Expr, name: Expr) -> Capability<'a>
         ensures { cap_of result ≡ tag (shape on_expr.now) (shape name) }
     {
@@ -94,7 +98,8 @@ impl<'a> Capability<'a> {
         }
     }
 
-    /// What it says, for a host that shows it: which expression, and what that has.
+    /// The parts of the capability, for a host that shows it: its expression, and the known
+    /// attribute or tag.
     pub fn parts(&self) -> (Accesses<'_>, &Known<'a>)
         ensures { cap_of self.now ≡ known_of (shape_at result.0) result.1.now }
     {

@@ -1,4 +1,4 @@
-// Digests of shapes. They take no memory, and go down the whole of an expression.
+// Digests of shapes. A digest takes no memory and covers the whole expression.
 ghost use Rattle.std.specs.Prelude.{◌≡◌, map};
 ghost use Rattle.cedar_types.specs.Capability.Digest.{joined, with_text, with_texts, with_digest, with_path, with_uid, var_digest, lit_digest, shape_digest, trees_digest, fields_digest};
 ghost use Rattle.cedar_types.specs.Names.{text_of, path_of, type_of, uid_of};
@@ -9,7 +9,7 @@ use std::collections::BTreeMap;
 use std::hash::{FoldHasher, Hash, Hasher};
 use std::rc::RcStr;
 
-/// A digest, and then what a value feeds a hasher.
+/// A digest joined with the input that `part` feeds a hasher.
 #[tactic(auto, unfolding(crate::specs::Capability::Digest::joined))]
 fn joined<T: Hash>(digest: u64, part: &T) -> u64
     ensures { result ≡ joined digest (T.hash_input part.now) }
@@ -20,14 +20,14 @@ fn joined<T: Hash>(digest: u64, part: &T) -> u64
     state.finish()
 }
 
-/// A digest, and then a text.
+/// A digest joined with a text.
 pub(crate) fn with_text(digest: u64, text: &RcStr) -> u64
     ensures { result ≡ with_text digest (text_of text.now) }
 {
     joined(digest, text)
 }
 
-/// A digest, and then another.
+/// A digest joined with another digest.
 pub(crate) fn with_digest(digest: u64, other: u64) -> u64
     ensures { result ≡ with_digest digest other }
 {
@@ -123,7 +123,7 @@ pub(crate) fn shape_digest(e: &Expr) -> u64
     }
 }
 
-/// A digest, and then those of these expressions.
+/// A digest joined with those of the expressions `es`, in order.
 #[cycle(digest)]
 fn list_digest(before: u64, es: &Vec<Expr>) -> u64
     ensures { result ≡ trees_digest before (trees_of (map shape es.now.items)) }
@@ -135,7 +135,7 @@ fn list_digest(before: u64, es: &Vec<Expr>) -> u64
     digest
 }
 
-/// A digest, and then those of these fields.
+/// A digest joined with the key and the digest of each field, in the order of the keys.
 #[cycle(digest)]
 fn fields_digest(before: u64, fields: &BTreeMap<RcStr, Expr>) -> u64
     ensures { result ≡ fields_digest before

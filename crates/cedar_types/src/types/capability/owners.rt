@@ -1,4 +1,4 @@
-// What has an attribute or a tag.
+// Owners: the expressions that have an attribute or a tag.
 ghost use Rattle.std.specs.Prelude.{◌≡◌, IfOk};
 ghost use Rattle.std.specs.Ordering.{as_partial_cmp};
 ghost use Rattle.cedar_types.specs.Accesses.{shape_at, shape_on, spine_at, spine_on, owner_eq, owner_cmp};
@@ -8,18 +8,18 @@ use crate::types::capability::accesses::{Accesses, compare};
 use std::alloc::{AllocError, Global};
 use std::cmp::Ordering;
 
-/// An expression that a capability is about. It counts by its shape alone, whoever holds it: one with accesses that it lends
-/// equals the nested accesses that a policy has.
+/// An expression that a capability is about. Its shape alone counts, whoever holds it: a borrowed
+/// expression with accesses equals the nested accesses that a policy has.
 #[derive(Drop, Debug)]
 pub(crate) enum Owner<'a> {
-    /// It is borrowed.
+    /// A borrowed expression, with its accesses.
     Lent(Accesses<'a>),
-    /// It was made for this.
+    /// An expression that was built for this capability.
     Made(Expr),
 }
 
 impl<'a> Owner<'a> {
-    /// The accesses, and what they are taken of.
+    /// The accesses, and the expression under them.
     pub(crate) fn accesses(&self) -> Accesses<'_>
         ensures spine { spine_at result ≡ spine_on self.now }
         ensures shape { shape_at result ≡ shape_on self.now }
@@ -30,7 +30,7 @@ impl<'a> Owner<'a> {
         }
     }
 
-    /// A copy. What is borrowed stays borrowed.
+    /// A copy. A borrowed expression stays borrowed.
     pub(crate) fn try_clone(&self, alloc: Global) -> Result<Owner<'a>, AllocError>
         ensures { IfOk result (λ o. shape_on o ≡ shape_on self.now) }
     {

@@ -9,7 +9,7 @@ ghost use Rattle.cedar_types.specs.Extensions.Functions.{has_bad_return, lacks_a
 use crate::base::expressions::extensions::ExtensionFunctionType;
 use crate::base::types::{BoolType, CedarType};
 
-/// Whether a function has a return type that none may have.
+/// Whether a function has a return type that no function may have.
 pub(crate) fn has_bad_return(functions: &[ExtensionFunctionType]) -> bool
     ensures { (meaning : _) →
         result ≡ list_any has_bad_return (map (function_of meaning) functions.now) }
@@ -60,7 +60,7 @@ fn lacks_arguments(function: &ExtensionFunctionType) -> bool
     function.is_variadic && function.argument_types.len() == 0
 }
 
-/// Whether it is a Boolean, a long, a string, an extension value, or a set of one of these.
+/// Whether the type is a Boolean, a long, a string, an extension value, or a set of one of these.
 fn may_be_returned(t: &CedarType) -> bool
     ensures { result ≡ may_be_returned (ty_of t.now) }
 {
@@ -70,7 +70,7 @@ fn may_be_returned(t: &CedarType) -> bool
     }
 }
 
-/// Whether it is a Boolean, a long, a string, or an extension value.
+/// Whether the type is a Boolean, a long, a string, or an extension value.
 fn is_plain_type(t: &CedarType) -> bool
     ensures { result ≡ is_plain_type (ty_of t.now) }
 {
