@@ -1,4 +1,4 @@
-// Annotations.
+// Annotations of policies and declarations: `@key("value")`.
 use crate::cursor::Cursor;
 use crate::faults::ReadError;
 use crate::texts::text;
@@ -9,11 +9,11 @@ use cedar_types::base::Loc;
 pub struct Annotation {
     pub key: String,
     pub value: String,
-    /// The whole, from its `@` on.
+    /// The whole annotation, from its `@` on.
     pub place: Loc,
 }
 
-/// Reads annotations, any number of them, and adds each to these.
+/// Reads any number of annotations and adds each to `annotations`.
 pub fn add_annotations(
     cursor: &mut Cursor<'_>,
     annotations: &mut Vec<Annotation>,
@@ -32,13 +32,13 @@ pub fn add_annotations(
     Ok(())
 }
 
-/// Reads annotations, any number of them, which mean nothing.
+/// Reads any number of annotations and drops them, because in a schema they mean nothing.
 pub fn pass_annotations(cursor: &mut Cursor<'_>) -> Result<(), ReadError> {
     let mut annotations = Vec::new(cursor.alloc);
     add_annotations(cursor, &mut annotations)
 }
 
-/// Reads the value of an annotation, which is empty where there is none.
+/// Reads the value of an annotation; the value is empty if no `(` follows.
 fn annotation_value(cursor: &mut Cursor<'_>) -> Result<String, ReadError> {
     if !cursor.takes("(") {
         return Ok(String::new(cursor.alloc));

@@ -1,4 +1,5 @@
-// Parts of expressions with commas between them: the elements of a set, the arguments of a call, the entries of a record.
+// Lists in expressions, with commas between the members: the elements of a set, the arguments of a
+// call, the entries of a record.
 use crate::cursor::Cursor;
 use crate::faults::{Fault, ReadError};
 use crate::members::{call, key, method_call};
@@ -7,29 +8,29 @@ use cedar_types::base::{Expr, Name};
 use std::collections::BTreeMap;
 use std::rc::RcStr;
 
-/// What expressions with commas between them are of.
+/// The construct to which the members of a list belong.
 #[derive(Drop)]
 pub enum ListOf {
     Set,
     /// The arguments of the function of this name.
     Function(Name),
-    /// The arguments of a method: what it is called on, its name, and the byte at which this begins.
+    /// The arguments of a method: its base, its name, and the byte at which the name begins.
     Method(Part, RcStr, usize),
 }
 
-/// Expressions with commas between them, of which more may follow.
+/// A list with commas between its members, to which more members may be added.
 #[derive(Drop)]
 pub struct List {
-    /// The byte at which the whole began.
+    /// Byte at which the whole list began.
     start: usize,
     of: ListOf,
     members: Vec<Expr>,
-    /// How deep the deepest of them is.
+    /// Depth of the deepest member; for a method at least the depth of its base.
     depth: usize,
 }
 
 impl List {
-    /// Without members so far.
+    /// A list without members so far.
     pub fn new(cursor: &Cursor<'_>, start: usize, of: ListOf) -> List {
         let depth = match &of {
             ListOf::Method(base, _, _) => base.depth,
@@ -44,7 +45,7 @@ impl List {
         }
     }
 
-    /// The mark behind the last member.
+    /// The mark that closes this list.
     pub fn closing(&self) -> &'static str {
         match self.of {
             ListOf::Set => "]",
@@ -52,14 +53,14 @@ impl List {
         }
     }
 
-    /// With one member more.
+    /// This list with one more member.
     pub fn with(mut self, member: Part) -> Result<List, ReadError> {
         self.depth = self.depth.max(member.depth);
         self.members.push(member.expr)?;
         Ok(self)
     }
 
-    /// The set or the call of all members, whose closing mark was read.
+    /// The set or the call of all members; you must have read the closing mark.
     pub fn finish(self, cursor: &Cursor<'_>) -> Result<Part, ReadError> {
         let List {
             start,
@@ -81,14 +82,14 @@ impl List {
 /// The entries of a record, of which more may follow.
 #[derive(Drop)]
 pub struct Fields {
-    /// The byte at which the record began.
+    /// Byte at which the record began.
     start: usize,
     entries: BTreeMap<RcStr, Expr>,
-    /// How deep the deepest value is.
+    /// Depth of the deepest value.
     depth: usize,
 }
 
-/// A key whose value follows, and the byte at which it stands.
+/// A key and the byte at which it stands; its value follows.
 #[derive(Drop)]
 pub struct Key {
     name: RcStr,
@@ -106,7 +107,7 @@ impl Key {
 }
 
 impl Fields {
-    /// Without entries so far.
+    /// A record without entries so far.
     pub fn new(cursor: &Cursor<'_>, start: usize) -> Fields {
         let entries = BTreeMap::new(cursor.alloc);
         Fields {
@@ -116,7 +117,8 @@ impl Fields {
         }
     }
 
-    /// With one entry more. It fails where the key is there.
+    /// This record with one more entry. It fails with `Fault::SameKey` if the record has the key
+    /// already.
     pub fn with(mut self, key: Key, value: Part) -> Result<Fields, ReadError> {
         self.depth = self.depth.max(value.depth);
         if self.entries.insert(key.name, value.expr)?.is_some() {
@@ -125,7 +127,7 @@ impl Fields {
         Ok(self)
     }
 
-    /// The record of all entries, whose brace was read.
+    /// The record of all entries; you must have read the closing brace.
     pub fn finish(self, cursor: &Cursor<'_>) -> Result<Part, ReadError> {
         part_since(cursor, self.start, self.depth, Expr::record(self.entries))
     }

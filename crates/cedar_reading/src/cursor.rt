@@ -1,4 +1,4 @@
-// A place in a text that is read from left to right.
+// The cursor: a place in a text that is read from left to right.
 use crate::faults::{Expected, Fault, ReadError};
 use crate::notes::Notes;
 use crate::tokens::{Token, TokenKind, token_from};
@@ -6,39 +6,41 @@ use cedar_types::base::Loc;
 use std::alloc::Global;
 use std::mem;
 
-/// How deep the parts of a text may stand inside each other: of an expression its nodes, and also the brackets and operators
-/// that are begun at a place; of a type the steps of the grammar.
+/// The largest depth of a text: in an expression, of nodes inside each other, and also of brackets
+/// and operators that are begun at a place; in a type, of steps of the grammar.
 pub const MAX_GRAMMAR_STEPS: usize = 800;
 
-/// How many bytes a text may have.
+/// The largest length of a text, in bytes.
 pub const MAX_LENGTH: usize = 1 << 26;
 
-/// Reads the tokens of a text, one after another.
+/// A reader of the tokens of a text, one after another.
 #[derive(Drop)]
 pub struct Cursor<'a> {
     pub alloc: Global,
     text: &'a str,
     /// The token that comes next.
     next: Token<'a>,
-    /// Where the token before it ended.
+    /// The byte at which the token before `next` ended.
     end: usize,
-    /// How many tokens were read.
+    /// The number of tokens read so far.
     tokens: usize,
-    /// Where the last operand ended that stands in the tree twice.
+    /// The end of the last operand that stands in the tree twice.
     copied: usize,
-    /// Where the last expression ended that needs nothing more, if one did.
+    /// The end of the last expression that needs nothing more, if there is one.
     whole_end: Option<usize>,
-    /// The faults behind which reading goes on.
+    /// The notes of this reading: among others the faults behind which reading goes on.
     pub notes: Notes,
 }
 
 impl<'a> Cursor<'a> {
-    /// At the beginning of the text. It fails where the text is too long.
+    /// A cursor at the beginning of the text, which stops at the first fault. It fails if the text
+    /// is too long.
     pub fn new(alloc: Global, text: &'a str) -> Result<Cursor<'a>, ReadError> {
         Cursor::begin(alloc, text, false)
     }
 
-    /// At the beginning of the text, to go on behind faults. It fails where the text is too long.
+    /// A cursor at the beginning of the text, which goes on behind faults. It fails if the text is
+    /// too long.
     pub fn noting(alloc: Global, text: &'a str) -> Result<Cursor<'a>, ReadError> {
         Cursor::begin(alloc, text, true)
     }
@@ -59,13 +61,13 @@ impl<'a> Cursor<'a> {
         })
     }
 
-    /// Goes on from another byte.
+    /// Moves to the byte `start` and goes on from there.
     pub fn move_to(&mut self, start: usize) {
         self.next = token_from(self.text, start);
         self.end = start;
     }
 
-    /// The same text from another byte on. It fails at the first fault.
+    /// A cursor over this text from the byte `start` on. It fails at the first fault.
     pub fn at(&self, start: usize) -> Cursor<'a> {
         Cursor {
             alloc: self.alloc,
@@ -79,7 +81,8 @@ impl<'a> Cursor<'a> {
         }
     }
 
-    /// The same text from one byte on, as if it ended at another. It fails at the first fault.
+    /// A cursor over this text from `place.start` on, as if the text ended at `place.end`. It fails
+    /// at the first fault.
     pub fn over(&self, place: Loc) -> Cursor<'a> {
         let text = self.text.get(..place.end).unwrap_or("");
         Cursor {
@@ -94,40 +97,41 @@ impl<'a> Cursor<'a> {
         }
     }
 
-    /// Keeps that an expression ends here that needs nothing more.
+    /// Records that an expression that needs nothing more ends here.
     pub fn keep_whole_end(&mut self) {
         self.whole_end = Some(self.end);
     }
 
-    /// Where the last such expression ended, if one did.
+    /// The end of the last expression that needs nothing more, if there is one.
     pub fn whole_end(&self) -> Option<usize> {
         self.whole_end
     }
 
-    /// How many tokens were read.
+    /// The number of tokens read so far.
     pub fn tokens(&self) -> usize {
         self.tokens
     }
 
-    /// The faults that were noted so far. No more are noted then.
+    /// Takes the notes out of the cursor. The cursor notes no more after that.
     pub fn take_notes(&mut self) -> Notes {
         let none = Notes::new(self.alloc, false);
         mem::replace(&mut self.notes, none)
     }
 
-    /// Whether an operand may stand in the tree twice: if nothing in it does.
+    /// Whether the operand at `place` may stand in the tree twice: if no part of it does so
+    /// already. Records the operand.
     pub fn may_copy(&mut self, place: Loc) -> bool {
         let may_copy = self.copied <= place.start;
         self.copied = self.copied.max(place.end);
         may_copy
     }
 
-    /// The next token, which stays.
+    /// The next token; the cursor stays.
     pub fn peek(&self) -> Token<'a> {
         self.next
     }
 
-    /// The next token, which is read.
+    /// The next token; the cursor moves behind it.
     pub fn take(&mut self) -> Token<'a> {
         let token = self.next;
         self.tokens = self.tokens.saturating_add(1);
@@ -136,12 +140,12 @@ impl<'a> Cursor<'a> {
         token
     }
 
-    /// Whether the next token is this word or mark.
+    /// Whether the next token is the word or mark `text`.
     pub fn is_at(&self, text: &str) -> bool {
         self.next.kind != TokenKind::Text && self.next.text == text
     }
 
-    /// Reads this word or mark, if it comes next.
+    /// Reads the word or mark `text` if it comes next, and returns whether it did.
     pub fn takes(&mut self, text: &str) -> bool {
         let is_there = self.is_at(text);
         if is_there {
@@ -150,7 +154,7 @@ impl<'a> Cursor<'a> {
         is_there
     }
 
-    /// Reads this word or mark, which has to come next.
+    /// Reads the word or mark `text`. It fails if another token comes next.
     pub fn expect(&mut self, text: &'static str) -> Result<(), ReadError> {
         if self.takes(text) {
             Ok(())
@@ -159,7 +163,8 @@ impl<'a> Cursor<'a> {
         }
     }
 
-    /// Reads this word or mark, which has to come next. The fault names what else may stand there.
+    /// Reads the word or mark `text`. If another token comes next, it fails, and the fault names
+    /// `all` that may stand there.
     pub fn expect_one(&mut self, text: &str, all: Expected) -> Result<(), ReadError> {
         if self.takes(text) {
             Ok(())
@@ -168,7 +173,7 @@ impl<'a> Cursor<'a> {
         }
     }
 
-    /// Reads a word.
+    /// Reads a word. It fails if another token comes next.
     pub fn word(&mut self) -> Result<&'a str, ReadError> {
         if self.next.kind != TokenKind::Word {
             return Err(self.fault(Fault::Expected(Expected::Name)));
@@ -176,22 +181,22 @@ impl<'a> Cursor<'a> {
         Ok(self.take().text)
     }
 
-    /// Whether the text has ended.
+    /// Whether the text has no more tokens.
     pub fn is_at_end(&self) -> bool {
         self.next.kind == TokenKind::End
     }
 
-    /// The fault at the next token.
+    /// The error of `fault` at the next token.
     pub fn fault(&self, fault: Fault) -> ReadError {
         ReadError::At(self.next.place.start, fault)
     }
 
-    /// Where the next token starts.
+    /// The byte at which the next token starts.
     pub fn start(&self) -> usize {
         self.next.place.start
     }
 
-    /// From this byte to the end of the last token that was read.
+    /// The place from the byte `start` to the end of the last token read.
     pub fn since(&self, start: usize) -> Loc {
         Loc {
             start,
@@ -199,13 +204,13 @@ impl<'a> Cursor<'a> {
         }
     }
 
-    /// Whether the next token is the first of its line, and not of the text.
+    /// Whether a line break stands between the last token and the next one.
     pub fn begins_line(&self) -> bool {
         let before = self.text.get(self.end..self.next.place.start).unwrap_or("");
         before.contains('\n') || before.contains('\r')
     }
 
-    /// How many tokens may still come, at most.
+    /// An upper bound of the number of tokens that may still come.
     pub fn most_left(&self) -> usize {
         self.text.len().saturating_add(1)
     }

@@ -1,5 +1,5 @@
-// Expressions, as Cedar writes them. What is begun stands in a list, and not on the stack: so the stack does not grow with what
-// the text nests, parentheses included.
+// Expressions, in Cedar's syntax. Parts that are begun stand in a list and not on the stack, so the
+// stack does not grow with the nesting of the text, parentheses included.
 use crate::brackets::{Fields, List, ListOf};
 use crate::cursor::{Cursor, MAX_GRAMMAR_STEPS};
 use crate::faults::{Expected, Fault, ReadError};
@@ -15,22 +15,24 @@ use crate::tokens::TokenKind;
 use cedar_types::base::Expr;
 use std::rc::RcStr;
 
-/// Reads an expression. At most `MAX_GRAMMAR_STEPS` nodes stand inside each other in it, and at most as many brackets and operators
-/// are begun at any place.
+/// Reads an expression. Its depth is at most `MAX_GRAMMAR_STEPS` nodes, and at each place at most
+/// as many brackets and operators are begun.
 pub fn expression(cursor: &mut Cursor<'_>) -> Result<Part, ReadError> {
     whole_expression(cursor, false)
 }
 
-/// Reads a text up to its end, where an expression ends that needs nothing more: the largest one that ends there.
+/// Reads a text up to its end, at which an expression that needs nothing more ends, and returns the
+/// largest such expression.
 pub fn last_whole(cursor: &mut Cursor<'_>) -> Result<Part, ReadError> {
     whole_expression(cursor, true)
 }
 
-/// Reads an expression: up to the end of the text, though more is begun there, or else whole.
+/// Reads a whole expression; or, if `may_be_cut`, up to the end of the text, though more is begun
+/// there.
 fn whole_expression(cursor: &mut Cursor<'_>, may_be_cut: bool) -> Result<Part, ReadError> {
     let mut open = Vec::new(cursor.alloc);
     let mut next = Next::Operand;
-    // each turn reads a token, or ends what began with one
+    // each turn reads a token, or ends a part that a token began
     for _ in 0..cursor.most_left().saturating_mul(2) {
         next = match next {
             Next::Operand => operand(cursor, &mut open)?,
@@ -44,7 +46,8 @@ fn whole_expression(cursor: &mut Cursor<'_>, may_be_cut: bool) -> Result<Part, R
     Err(cursor.fault(Fault::TooDeep))
 }
 
-/// Reads the beginning of an operand: a whole one, or what begins one. It fails where too much is begun.
+/// Reads the beginning of an operand: a whole operand, or the part that begins one. It fails if too
+/// many parts are begun.
 fn operand(cursor: &mut Cursor<'_>, open: &mut Vec<Open>) -> Result<Next, ReadError> {
     if open.len() >= MAX_GRAMMAR_STEPS {
         return Err(cursor.fault(Fault::TooDeep));
@@ -61,7 +64,7 @@ fn operand(cursor: &mut Cursor<'_>, open: &mut Vec<Open>) -> Result<Next, ReadEr
     }
 }
 
-/// Reads the beginning of an operand that begins with this mark.
+/// Reads the beginning of an operand that starts with `mark`.
 fn begin_with_mark(
     cursor: &mut Cursor<'_>,
     open: &mut Vec<Open>,
@@ -100,8 +103,8 @@ fn begin_with_mark(
     }
 }
 
-/// Reads what stands behind a minus, which stands at this byte: a minus before a number belongs to the number, unless the number
-/// is a member's: `-5.x` is `-(5.x)`.
+/// Reads the operand behind a minus at the byte `start`. A minus before a number belongs to the
+/// number, unless a member of the number follows: `-5.x` is `-(5.x)`.
 fn behind_minus(
     cursor: &mut Cursor<'_>,
     open: &mut Vec<Open>,
@@ -120,7 +123,8 @@ fn is_before_member(cursor: &Cursor<'_>) -> bool {
     cursor.is_at(".") || cursor.is_at("[")
 }
 
-/// Reads the beginning of an operand that begins with a word. An `if` may only begin a whole expression.
+/// Reads the beginning of an operand that starts with a word. An `if` may only begin a whole
+/// expression.
 fn begin_with_word(
     cursor: &mut Cursor<'_>,
     open: &mut Vec<Open>,
@@ -140,8 +144,8 @@ fn begin_with_word(
     }
 }
 
-/// Reads what stands behind a part: an operator, if one comes that may follow and binds stronger than what was begun before
-/// the part; else what was begun goes on with the part.
+/// Goes on behind `part`: with the next operator, if it may follow and binds stronger than the
+/// innermost part that is begun; else that part goes on with `part`.
 fn behind(
     cursor: &mut Cursor<'_>,
     open: &mut Vec<Open>,
@@ -158,7 +162,7 @@ fn behind(
     }
 }
 
-/// Reads what stands behind an operator.
+/// Reads the text behind an operator.
 fn with_operator(
     cursor: &mut Cursor<'_>,
     open: &mut Vec<Open>,
@@ -198,7 +202,7 @@ fn with_is(cursor: &mut Cursor<'_>, open: &mut Vec<Open>, base: Part) -> Result<
     let entity_type = entity_type(cursor)?;
     cursor.keep_whole_end();
     if cursor.is_at("in") {
-        // the operand stands in the tree twice
+        // the left operand stands in the tree twice
         if !cursor.may_copy(base.covers) {
             return Err(cursor.fault(Fault::Twice));
         }

@@ -1,8 +1,8 @@
-// Why a text cannot be read.
+// Faults: the reasons why a text cannot be read.
 use std::alloc::{AllocError, AllocFailed};
 use thiserror::Error;
 
-/// What should stand at a place of a text.
+/// The text that should stand at a place.
 #[derive(Clone, Copy, PartialEq, Eq, Debug, Error)]
 pub enum Expected {
     #[error("an expression")]
@@ -11,7 +11,7 @@ pub enum Expected {
     Name,
     #[error("a text in quotes")]
     Text,
-    /// What a policy does, behind its annotations.
+    /// The effect of a policy, behind its annotations.
     #[error("`permit` or `forbid`")]
     Effect,
     /// A condition of a policy, or the policy's end.
@@ -51,17 +51,17 @@ pub enum Expected {
     /// The types of principals, which `appliesTo` has to name.
     #[error("`principal`")]
     Principal,
-    /// The types of resources, which it has to name too.
+    /// The types of resources, which `appliesTo` has to name too.
     #[error("`resource`")]
     Resource,
     #[error("at least one type")]
     SomeType,
-    /// What a reader wants that stands on this crate, in its own words.
+    /// The expectation of a reader that builds on this crate, in its own words.
     #[error("{0}")]
     Other(&'static str),
 }
 
-/// What is wrong at a place of a text.
+/// A fault at a place of a text.
 #[derive(Clone, Copy, PartialEq, Eq, Debug, Error)]
 pub enum Fault {
     /// Parts stand inside each other more than `MAX_GRAMMAR_STEPS` times.
@@ -70,20 +70,20 @@ pub enum Fault {
     /// The text is longer than `MAX_LENGTH`.
     #[error("too long")]
     TooLong,
-    /// `a is T in b`, where `a` stands in the tree twice and has such an operator itself.
+    /// `a is T in b`, because `a` stands in the tree twice and itself has such an operator.
     #[error("an `is .. in` behind an operand that has one too")]
     Twice,
     #[error("a number out of range")]
     Number,
     #[error("a text that does not end, or an escape that is none")]
     Text,
-    /// Aliases stand for others so often that their types would be too large.
+    /// Aliases stand for each other so often that their types would be too large.
     #[error("aliases that stand for too much")]
     TooLarge,
-    /// A carriage return stands in a text as it is.
+    /// A carriage return stands unescaped in a text in quotes.
     #[error("a carriage return in a text")]
     CarriageReturn,
-    /// The type of an action in a policy's scope has another name.
+    /// The type of an action in a policy's scope has a name other than `Action`.
     #[error("the type of an action has to be named `Action`")]
     ActionType,
     #[error("the same key twice")]
@@ -92,23 +92,26 @@ pub enum Fault {
     SameName,
     #[error("a name that is not declared")]
     Undeclared,
-    /// An alias is of this type, so that nothing else has to name it.
+    /// The type of an alias names a type that is not declared; perhaps nothing else names that
+    /// type.
     #[error("a type that is not declared")]
     UnknownType,
     #[error("a name that the language keeps for itself")]
     Reserved,
-    /// More entity types or actions are in others, over any number of steps, than a schema may have.
+    /// Entity types or actions have more descendants together, over any number of steps, than a
+    /// schema may have, or more parents.
     #[error("too many descendants")]
     TooMany,
-    /// This word or mark should stand here.
+    /// The word or mark that should stand here.
     #[error("{0} is expected")]
     Missing(&'static str),
-    /// Something else should stand here.
+    /// The kind of text that should stand here.
     #[error("{0} is expected")]
     Expected(Expected),
 }
 
-/// Why a text cannot be read: its first fault, and at which byte it stands; or memory was refused.
+/// The reason why a text cannot be read: its first fault and the byte of that fault, or refused
+/// memory.
 #[derive(Debug, Drop, Error)]
 pub enum ReadError {
     #[error("memory was refused")]

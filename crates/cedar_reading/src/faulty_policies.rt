@@ -1,4 +1,4 @@
-// Policies with a fault, and what was read of them.
+// Policies with a fault, and the parts read of them.
 use crate::annotations::Annotation;
 use crate::cursor::Cursor;
 use crate::expressions::{expression, last_whole};
@@ -12,36 +12,42 @@ use cedar_types::base::{
 };
 use std::alloc::{AllocError, Global};
 
-/// A policy with a fault, and what was read of it before that. A part of its scope is `None` where it was not read whole.
+/// A policy with a fault, and the parts read before the fault. A part of its scope is `None` if it
+/// was not read whole.
 #[derive(Debug, Drop)]
 pub struct FaultyPolicy {
-    /// What is wrong.
+    /// The first fault of the policy.
     pub fault: Fault,
-    /// The byte at which that stands.
+    /// The byte at which the fault stands.
     pub start: usize,
-    /// The policy's text: up to its `;`, or to where the next policy seems to begin.
+    /// The policy's text: up to its `;`, or up to the byte at which the next policy seems to begin.
     pub place: Loc,
-    /// What `@id` says where that was read, else `policy` and how many policies come before it.
+    /// The value of `@id` if that was read, else `policy` and the number of policies before this
+    /// one.
     pub id: PolicyID,
-    /// In the order of the text.
+    /// The annotations, in the order of the text.
     pub annotations: Vec<Annotation>,
     pub effect: Option<Effect>,
     pub principal: Option<PrincipalConstraint>,
     pub action: Option<ActionConstraint>,
     pub resource: Option<ResourceConstraint>,
-    /// The conditions that were read whole, as one, as in the tree of a policy. `None` too where that is nested too deep.
+    /// The conditions that were read whole, joined as in the tree of a policy. `None` also if that
+    /// tree would be too deep.
     pub condition: Option<Expr>,
-    /// Of the condition with the fault: the largest expression that needs nothing more and behind which no other ends before
-    /// the fault. Of `a && b.` it is `a && b`, of `a && (b || c.` it is `b || c`.
+    /// The largest expression, in the condition with the fault, that needs nothing more and behind
+    /// which no other ends before the fault. Of `a && b.` it is `a && b`, of `a && (b || c.` it is
+    /// `b || c`.
     pub unfinished: Option<Expr>,
 }
 
-/// The policies of a text in their order, and of each that has a fault what was read of it. It fails where the text is too
-/// long, and where memory is refused.
+/// The policies of a text in their order; a policy with a fault comes with the parts read of it. It
+/// fails if the text is too long, and if memory is refused.
 ///
-/// A policy without a fault is what `Policies::next_policy` gives. Of one with a fault the first fault is told. It ends at its
-/// `;`, or before it where another policy seems to begin: inside of brackets at the beginning of a line alone. So a condition
-/// that is being written hides no policy behind it, and the numbers in ids may be others than those of `Policies`.
+/// A policy without a fault is the policy that `Policies::next_policy` gives. For a policy with
+/// faults you get the first fault. Such a policy ends at its `;`, or before that if another policy
+/// seems to begin; inside brackets another policy begins only at the beginning of a line. So an
+/// unfinished condition hides no policy behind it, and the numbers in ids may differ from those of
+/// `Policies`.
 pub fn policies_with_faults(
     alloc: Global,
     text: &str,
@@ -57,7 +63,8 @@ pub fn policies_with_faults(
     Ok(policies)
 }
 
-/// Reads a policy, before which there are so many; one with a fault up to where the next one seems to begin.
+/// Reads a policy with `number` policies before it; a policy with a fault is read up to the byte at
+/// which the next one seems to begin.
 fn policy_or_faulty(
     cursor: &mut Cursor<'_>,
     number: usize,
@@ -70,7 +77,7 @@ fn policy_or_faulty(
     };
     let next = next_policy_from(&cursor.at(start), start);
     let place = next.since(start);
-    // reading may have gone on into the next policy, as behind a point
+    // reading may have gone on into the next policy, for example behind a point
     if next.start() < cursor.start() {
         parts = PolicyParts::new(cursor.alloc);
         if let Err(own) = read_parts(&mut cursor.over(place), &mut parts) {
@@ -82,7 +89,8 @@ fn policy_or_faulty(
     Ok(Err(read))
 }
 
-/// The policy at this place with this fault, of which these parts were read. It fails where it was memory that was refused.
+/// The policy at `place` with its fault and the parts read of it. It fails if `error` is refused
+/// memory.
 fn faulty_policy(
     cursor: &Cursor<'_>,
     place: Loc,
@@ -126,14 +134,14 @@ fn faulty_policy(
     })
 }
 
-/// Of an expression that begins at a byte and has a fault at another: the largest one that needs nothing more and behind which
-/// no other ends before the fault.
+/// The largest part of an expression from `start` to the byte `fault` that needs nothing more and
+/// behind which no other ends before the fault.
 fn whole_before(
     cursor: &Cursor<'_>,
     start: usize,
     fault: usize,
 ) -> Result<Option<Expr>, AllocError> {
-    // where that ends is known once all is read before the fault
+    // the end of that part is known after reading all the text before the fault
     let mut before = cursor.over(Loc { start, end: fault });
     match expression(&mut before) {
         Err(ReadError::Memory(error)) => return Err(error),

@@ -1,5 +1,5 @@
-// Declarations that are given one by one, as test cases and worked rows write them. Cedar's own syntax cannot say them, and
-// what reads that knows nothing of them.
+// Declarations that are given one by one, in the notation of test cases and worked rows. Cedar's
+// own syntax cannot write them, and its reader knows nothing of them.
 use crate::cursor::{Cursor, MAX_GRAMMAR_STEPS};
 use crate::faults::{Expected, Fault, ReadError};
 use crate::names::{PlacedName, placed_name};
@@ -20,14 +20,15 @@ use std::alloc::{AllocError, Global};
 use std::collections::{BTreeMap, BTreeSet};
 use std::rc::Rc;
 
-/// The schema of declarations that are given one by one: types may be any that are shown, `above [B, C]` in the place of `in`
-/// gives the descendants, and none are added, an action may be named by its whole id, and `external` may stand before
-/// `entity` or `action`. Without a path a name means one of its namespace. It fails as `schema` does.
+/// The schema of declarations that are given one by one. A type may be any type that is shown.
+/// `above [B, C]` in the place of `in` gives the descendants, and none are added. An action may be
+/// named by its whole id, and `external` may stand before `entity` or `action`. A name without a
+/// path is one of its namespace. It fails as `schema` does.
 pub fn schema_as_given(alloc: Global, text: &str) -> Result<ValidatorSchema, SchemaReadError> {
     schema_of(alloc, declarations_as_given(alloc, text)?)
 }
 
-/// The same declarations, each name on its own. It fails where the text cannot be read.
+/// The declarations of the text, each name on its own. It fails if the text cannot be read.
 pub fn declarations_as_given(alloc: Global, text: &str) -> Result<SchemaDeclarations, ReadError> {
     let mut cursor = Cursor::new(alloc, text)?;
     let mut given = SchemaDeclarations {
@@ -59,7 +60,7 @@ fn block(cursor: &mut Cursor<'_>, given: &mut SchemaDeclarations) -> Result<(), 
     Ok(())
 }
 
-/// Reads a declaration, and adds what it gives.
+/// Reads a declaration and adds it to `given`.
 fn declaration(
     cursor: &mut Cursor<'_>,
     namespace: &[&str],
@@ -75,7 +76,7 @@ fn declaration(
     }
 }
 
-/// Reads entity types behind that word, and adds them.
+/// Reads entity types behind the word `entity`, and adds them.
 fn add_types(
     cursor: &mut Cursor<'_>,
     namespace: &[&str],
@@ -100,7 +101,7 @@ fn add_types(
     Ok(())
 }
 
-/// Reads the ids, or the attributes and tags.
+/// Reads the ids of an enumerated type, or the attributes and tags of another type.
 fn kind_of_types(cursor: &mut Cursor<'_>) -> Result<ValidatorEntityTypeKind, ReadError> {
     if cursor.takes("enum") {
         return Ok(ValidatorEntityTypeKind::Enum(ids(cursor)?));
@@ -114,7 +115,7 @@ fn kind_of_types(cursor: &mut Cursor<'_>) -> Result<ValidatorEntityTypeKind, Rea
     Ok(ValidatorEntityTypeKind::Standard(StandardValidatorEntityType { attributes, tags }))
 }
 
-/// Reads attributes, which may be missing, as the type of a record that has no others.
+/// Reads attributes, which may be missing, as the type of a closed record.
 fn attributes(cursor: &mut Cursor<'_>) -> Result<Attributes, ReadError> {
     if !cursor.is_at("{") {
         return Ok(Attributes::with_attributes(cursor.alloc, BTreeMap::new(cursor.alloc))?);
@@ -132,7 +133,7 @@ fn shown_type(cursor: &mut Cursor<'_>) -> Result<CedarType, ReadError> {
     read_shown_type(cursor, MAX_GRAMMAR_STEPS)
 }
 
-/// Reads actions behind that word, and adds them.
+/// Reads actions behind the word `action`, and adds them.
 fn add_actions(
     cursor: &mut Cursor<'_>,
     namespace: &[&str],
@@ -157,7 +158,8 @@ fn add_actions(
     Ok(())
 }
 
-/// Reads what an action applies to: its principals, its resources, and perhaps a context. Without that it applies to nothing.
+/// Reads the `appliesTo` of an action: its principals, its resources, and perhaps a context. An
+/// action without `appliesTo` applies to nothing.
 fn application(
     cursor: &mut Cursor<'_>,
     namespace: &[&str],
@@ -189,9 +191,9 @@ fn expect_part(cursor: &mut Cursor<'_>, word: &'static str) -> Result<(), ReadEr
     cursor.expect(":")
 }
 
-/// What declarations have names for.
+/// A kind of name that declarations have: an entity type, or an action.
 trait GivenName: Sized + Ord + Drop {
-    /// Reads a name. One without a path is of the namespace.
+    /// Reads a name. A name without a path is one of the namespace.
     fn read(cursor: &mut Cursor<'_>, namespace: &[&str]) -> Result<Self, ReadError>;
 }
 
@@ -206,7 +208,7 @@ impl GivenName for EntityType {
 }
 
 impl GivenName for EntityUID {
-    /// The id is whole, or a word or a text.
+    /// Reads the id of an action: a whole id, a word, or a text.
     fn read(cursor: &mut Cursor<'_>, namespace: &[&str]) -> Result<EntityUID, ReadError> {
         let alloc = cursor.alloc;
         let own = own_type(alloc, "Action", namespace)?;
@@ -231,7 +233,7 @@ fn own_type(alloc: Global, basename: &str, namespace: &[&str]) -> Result<EntityT
     Ok(EntityType::new(Name::new(alloc, basename, namespace)?, None))
 }
 
-/// Reads names.
+/// Reads names, as many as `listing` allows.
 fn names<N: GivenName>(
     cursor: &mut Cursor<'_>,
     namespace: &[&str],
@@ -260,7 +262,7 @@ fn name_set<N: GivenName>(
     Ok(set)
 }
 
-/// Reads the descendants behind `above`: none where it is missing.
+/// Reads the descendants behind `above`; there are none if it is missing.
 fn descendants<N: GivenName>(
     cursor: &mut Cursor<'_>,
     namespace: &[&str],

@@ -1,5 +1,6 @@
-//! Policies and schemas as texts, those of cases and those of files, and types as they are shown; with a fault and its place
-//! for what cannot be read. Nothing is claimed of it but that it is safe and ends.
+//! Reader of policies and schemas as texts, those of cases and those of files, and of types as they
+//! are shown; if a text cannot be read, you get a fault and its place. The proofs claim only that
+//! this crate is safe and total.
 #![tactic(auto)]
 
 mod annotations;

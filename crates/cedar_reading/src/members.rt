@@ -1,4 +1,4 @@
-// The forms of expressions that have no grammar of their own.
+// Small expressions that have no grammar of their own: literals, slots, keys, calls.
 use crate::cursor::{Cursor, MAX_GRAMMAR_STEPS};
 use crate::faults::{Expected, Fault, ReadError};
 use crate::names::{placed_name, uid_of};
@@ -9,7 +9,7 @@ use cedar_types::base::{AttrChain, Expr, ExprKind, Literal, Name, SlotId, Var};
 use std::alloc::Global;
 use std::rc::RcStr;
 
-/// What a word begins.
+/// The beginning of an operand that starts with a word.
 #[derive(Drop)]
 pub enum Beginning {
     /// A variable, a boolean or an id of an entity.
@@ -73,7 +73,7 @@ pub fn literal(cursor: &mut Cursor<'_>) -> Result<Expr, ReadError> {
     }
 }
 
-/// Reads a number behind its minus, which stands at this byte. Blanks and comments may stand between them.
+/// Reads the number behind a minus at the byte `start`. Blanks and comments may stand between them.
 pub fn negative_number(cursor: &mut Cursor<'_>, start: usize) -> Result<Expr, ReadError> {
     let alloc = cursor.alloc;
     let digits = cursor.take().text;
@@ -81,7 +81,7 @@ pub fn negative_number(cursor: &mut Cursor<'_>, start: usize) -> Result<Expr, Re
     long(content.as_str(), start)
 }
 
-/// The number that this text says, which begins at this byte.
+/// The number that `text` writes, at the byte `start`.
 fn long(text: &str, start: usize) -> Result<Expr, ReadError> {
     match text.parse::<i64>() {
         Ok(number) => Ok(Expr::val(Literal::Long(number))),
@@ -99,7 +99,7 @@ pub fn key(cursor: &mut Cursor<'_>) -> Result<RcStr, ReadError> {
     Ok(RcStr::from_str(alloc, content.as_str())?)
 }
 
-/// Reads what stands behind `has`: one attribute, or several with points between them.
+/// Reads the attribute behind `has`, or several with points between them.
 pub fn has(cursor: &mut Cursor<'_>, base: Expr) -> Result<Expr, ReadError> {
     let alloc = cursor.alloc;
     let first = key(cursor)?;
@@ -114,7 +114,7 @@ pub fn has(cursor: &mut Cursor<'_>, base: Expr) -> Result<Expr, ReadError> {
 /// Reads attributes with a point before each.
 fn further_attributes(cursor: &mut Cursor<'_>) -> Result<Vec<RcStr>, ReadError> {
     let mut attributes = Vec::new(cursor.alloc);
-    // each is a test of what those before it lead to
+    // each attribute tests the entity or record to which those before it lead
     for _ in 0..MAX_GRAMMAR_STEPS {
         if !cursor.takes(".") {
             return Ok(attributes);
@@ -125,7 +125,7 @@ fn further_attributes(cursor: &mut Cursor<'_>) -> Result<Vec<RcStr>, ReadError> 
     Err(cursor.fault(Fault::TooDeep))
 }
 
-/// A call of an extension function, whose name begins at this byte, or an unknown.
+/// The call of an extension function whose name begins at the byte `start`, or an unknown.
 pub fn call(alloc: Global, start: usize, name: Name, args: Vec<Expr>) -> Result<Expr, ReadError> {
     if !name.path.is_empty() || name.basename.as_str() != "unknown" {
         return Ok(Expr::call_extension_fn(name, args));
@@ -139,7 +139,7 @@ pub fn call(alloc: Global, start: usize, name: Name, args: Vec<Expr>) -> Result<
     Ok(Expr::unknown(Name::unqualified_name(alloc, unknown)?))
 }
 
-/// The text of a literal that is one.
+/// The content of a string literal, if `expr` is one.
 fn string_in(expr: &Expr) -> Option<&str> {
     match &expr.kind {
         ExprKind::Lit(Literal::String(content)) => Some(content.as_str()),
@@ -147,8 +147,8 @@ fn string_in(expr: &Expr) -> Option<&str> {
     }
 }
 
-/// What a method's call is: an operator, or a call of an extension function with the base as its first argument. The name
-/// begins at this byte.
+/// The expression of a method's call: an operator, or a call of an extension function with the base
+/// as its first argument. The name begins at the byte `start`.
 pub fn method_call(
     alloc: Global,
     start: usize,

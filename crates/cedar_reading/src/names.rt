@@ -1,20 +1,21 @@
-// Names and ids.
+// Names and ids of entities.
 use crate::cursor::Cursor;
 use crate::faults::{Fault, ReadError};
 use crate::texts::text;
 use crate::tokens::TokenKind;
 use cedar_types::base::{EntityType, EntityUID, Loc, Name};
 
-/// A name that was read, and its place.
+/// A name, and its place.
 #[derive(Drop)]
 pub struct PlacedName {
     pub name: Name,
     pub place: Loc,
-    /// Whether `::` and a text in quotes stand behind it, as in an id.
+    /// Whether `::` and a text in quotes follow the name, as in an id.
     pub is_of_id: bool,
 }
 
-/// Reads a name: words with `::` between them. A `::` behind it is read too.
+/// Reads a name: words with `::` between them. It also reads a `::` behind the name, if a text in
+/// quotes follows that.
 pub fn placed_name(cursor: &mut Cursor<'_>) -> Result<PlacedName, ReadError> {
     let alloc = cursor.alloc;
     let start = cursor.start();
@@ -51,7 +52,7 @@ pub fn entity_type(cursor: &mut Cursor<'_>) -> Result<EntityType, ReadError> {
     Ok(EntityType::new(read.name, Some(read.place)))
 }
 
-/// Reads the text of an id behind the name of its type, which began at this byte.
+/// Reads the text of an id behind the name of its type, which began at the byte `start`.
 pub fn uid_of(
     cursor: &mut Cursor<'_>,
     start: usize,
@@ -73,7 +74,7 @@ pub fn entity_uid(cursor: &mut Cursor<'_>) -> Result<EntityUID, ReadError> {
     uid_of(cursor, start, read)
 }
 
-/// Whether a name means an extension type where no entity type is declared that it may mean.
+/// Whether a name means an extension type, if no declared entity type has that name.
 pub fn is_extension(name: &Name) -> bool {
     let basename = name.basename.as_str();
     name.path.is_empty() && matches!(basename, "ipaddr" | "decimal" | "datetime" | "duration")

@@ -1,22 +1,22 @@
-// Faults behind which reading goes on.
+// Notes of the reading of a schema: faults behind which reading goes on, and names.
 use crate::faults::{Expected, Fault, ReadError};
 use crate::schemas::written::{Mention, Role, WrittenName};
 use std::alloc::{AllocError, Global};
 use std::mem;
 
-/// A fault that was met.
+/// A fault that reading met.
 #[derive(Clone, Copy, PartialEq, Eq, Debug)]
 pub enum Met {
-    /// One of the text, or of a name in it.
+    /// A fault of the text, or of a name in it.
     Fault(Fault),
     /// A type that is named and not declared.
     UnknownType,
-    /// The context of an action that is no record.
+    /// The context of an action, if it is no record.
     VagueContext,
 }
 
 impl Met {
-    /// As reading fails with it at this byte.
+    /// The error of this fault at the byte `start`.
     fn at(self, start: usize) -> ReadError {
         let fault = match self {
             Met::Fault(fault) => fault,
@@ -27,32 +27,32 @@ impl Met {
     }
 }
 
-/// An alias that stands in the type of an alias.
+/// An alias that is used in the type of another alias.
 #[derive(Clone, Copy)]
 pub struct AliasUse {
-    /// The byte at which it stands.
+    /// Byte at which the used alias stands.
     pub start: usize,
-    /// The byte at which the name is declared whose type is read.
+    /// Byte of the declared name of the alias whose type is read.
     pub user: usize,
-    /// The byte at which its own name is declared.
+    /// Byte of the declared name of the used alias.
     pub used: usize,
 }
 
-/// What is noted while a schema is read.
+/// Notes that reading takes while it reads a schema.
 #[derive(Drop)]
 pub struct Notes {
     /// Whether reading goes on behind a fault.
     are_taken: bool,
     met: Vec<(usize, Met)>,
-    /// The byte at which the name of the alias stands whose type is read.
+    /// Byte of the declared name of the alias whose type is read.
     alias: Option<usize>,
     uses: Vec<AliasUse>,
-    /// The names that were read of the declaration that is read.
+    /// The names read so far of the current declaration.
     mentions: Vec<Mention>,
 }
 
 impl Notes {
-    /// None so far.
+    /// Notes without entries so far.
     pub fn new(alloc: Global, are_taken: bool) -> Notes {
         Notes {
             are_taken,
@@ -68,17 +68,17 @@ impl Notes {
         self.are_taken
     }
 
-    /// The faults that were met, and the bytes at which they stand.
+    /// The faults met so far, and the byte of each.
     pub fn met(&self) -> &[(usize, Met)] {
         self.met.as_slice()
     }
 
-    /// Which aliases stand in the types of which, in the order of the text.
+    /// The uses of aliases in the types of aliases, in the order of the text.
     pub fn uses(&self) -> &[AliasUse] {
         self.uses.as_slice()
     }
 
-    /// Notes a fault, where reading goes on behind it; else fails with it.
+    /// Notes a fault if reading goes on behind faults; else fails with it.
     pub fn meet(&mut self, start: usize, met: Met) -> Result<(), ReadError> {
         if !self.are_taken {
             return Err(met.at(start));
@@ -87,12 +87,13 @@ impl Notes {
         Ok(())
     }
 
-    /// From here on the type of the alias is read whose name stands at this byte; of none at `None`.
+    /// Sets the alias whose type is read from here on, by the byte of its declared name; `None` for
+    /// no alias.
     pub fn read_alias(&mut self, own_start: Option<usize>) {
         self.alias = own_start;
     }
 
-    /// Notes that an alias stands at this byte, whose name is declared at the other.
+    /// Notes that an alias, declared at the byte `used`, is used at the byte `start`.
     pub fn use_alias(&mut self, start: usize, used: usize) -> Result<(), AllocError> {
         if let (true, Some(user)) = (self.are_taken, self.alias) {
             self.uses.push(AliasUse { start, user, used })?;
@@ -100,7 +101,7 @@ impl Notes {
         Ok(())
     }
 
-    /// Notes that a name was read, where reading goes on behind a fault.
+    /// Notes a name that was read, if reading goes on behind faults.
     pub fn mention(&mut self, name: &WrittenName, role: Role) -> Result<(), AllocError> {
         if self.are_taken {
             let name = name.copy()?;
@@ -109,7 +110,7 @@ impl Notes {
         Ok(())
     }
 
-    /// The names that were read since this was last asked.
+    /// Takes the names that were read since the last call.
     pub fn take_mentions(&mut self) -> Vec<Mention> {
         let alloc = *self.mentions.allocator();
         mem::replace(&mut self.mentions, Vec::new(alloc))

@@ -1,4 +1,5 @@
-// What is begun of an expression, and how each of these goes on behind the expression that it waits for.
+// Parts of an expression that are begun, and how each goes on behind the expression that it waits
+// for.
 use crate::brackets::{Fields, Key, List};
 use crate::cursor::Cursor;
 use crate::faults::{Expected, Fault, ReadError};
@@ -13,16 +14,17 @@ pub enum Prefix {
     Minus,
 }
 
-/// What waits for an expression.
+/// A part that waits for an expression.
 #[derive(Drop)]
 pub enum Open {
-    /// An operator before its operand, which begins at this byte.
+    /// An operator before its operand, and the byte of the operator.
     Prefix(Prefix, usize),
     /// An operator behind its left operand.
     Between(Level, Connective, Part),
     /// `is` and `in` behind their left operand.
     Within(EntityType, Part),
-    /// An `if` at this byte: it waits for the test, then for what is chosen, then for the other.
+    /// An `if` at this byte: it waits for the test, then for the chosen branch, then for the other
+    /// one.
     Test(usize),
     Chosen(usize, Part),
     Other(usize, Part, Part),
@@ -32,24 +34,25 @@ pub enum Open {
     Record(Fields, Key),
 }
 
-/// What is to be read next.
+/// The kind of text to read next.
 #[derive(Drop)]
 pub enum Next {
     /// The beginning of an operand.
     Operand,
-    /// What goes on with this part, or ends it: no operator that binds stronger than this.
+    /// The text behind this part: an operator, none stronger than the level, or the end of the
+    /// part.
     Behind(Part, Level),
-    /// Nothing, as this is the whole.
+    /// Nothing, because this part is the whole expression.
     End(Part),
 }
 
-/// Begins something inside of what is begun.
+/// Begins a part inside the parts that are begun.
 pub fn begin(open: &mut Vec<Open>, what: Open) -> Result<Next, ReadError> {
     open.push(what)?;
     Ok(Next::Operand)
 }
 
-/// How strongly the innermost of what is begun binds what is read.
+/// The strength with which the innermost begun part binds the next operand.
 pub fn innermost_level(open: &[Open]) -> Level {
     match open.last() {
         Some(Open::Prefix(_, _)) => Level::Prefix,
@@ -59,7 +62,7 @@ pub fn innermost_level(open: &[Open]) -> Level {
     }
 }
 
-/// Goes on with the innermost of what is begun, behind the expression that it waits for.
+/// Goes on with the innermost begun part, behind the expression that it waits for.
 pub fn close(cursor: &mut Cursor<'_>, open: &mut Vec<Open>, part: Part) -> Result<Next, ReadError> {
     match open.pop() {
         None => Ok(Next::End(part)),
@@ -105,7 +108,7 @@ pub fn close_whole(
     Ok(whole)
 }
 
-/// Whether the innermost of what is begun ends with the expression that it waits for.
+/// Whether the innermost begun part ends with the expression that it waits for.
 fn ends_with_operand(open: &[Open]) -> bool {
     matches!(
         open.last(),
@@ -129,7 +132,8 @@ fn close_prefix(
     Ok(Next::Behind(whole, Level::Product))
 }
 
-/// Both operands. An operator that binds as strongly may follow, but no relation behind a relation.
+/// Joins both operands. An operator that binds as strongly may follow, but no relation behind a
+/// relation.
 fn between(
     cursor: &Cursor<'_>,
     level: Level,
@@ -180,7 +184,7 @@ fn conditional(
     Ok(Next::Behind(whole, Level::Whole))
 }
 
-/// Reads what stands behind a member of a list: a comma, the mark that closes the list, or both.
+/// Reads the text behind a member of a list: a comma, the mark that closes the list, or both.
 fn behind_member(
     cursor: &mut Cursor<'_>,
     open: &mut Vec<Open>,
@@ -195,7 +199,7 @@ fn behind_member(
     Ok(Next::Behind(list.finish(cursor)?, Level::Member))
 }
 
-/// Reads the mark that closes a list, if it comes next; else another member is to follow.
+/// Reads the mark that closes the list, if it comes next; else another member has to follow.
 pub fn next_member(
     cursor: &mut Cursor<'_>,
     open: &mut Vec<Open>,
@@ -207,7 +211,7 @@ pub fn next_member(
     Ok(Next::Behind(list.finish(cursor)?, Level::Member))
 }
 
-/// Reads what stands behind a value of a record: a comma, the brace that closes the record, or both.
+/// Reads the text behind a value of a record: a comma, the brace that closes the record, or both.
 fn behind_value(
     cursor: &mut Cursor<'_>,
     open: &mut Vec<Open>,
@@ -223,7 +227,7 @@ fn behind_value(
     Ok(Next::Behind(fields.finish(cursor)?, Level::Member))
 }
 
-/// Reads the brace that closes a record, if it comes next; else a key, whose value is to follow.
+/// Reads the brace that closes the record, if it comes next; else a key, whose value has to follow.
 pub fn next_value(
     cursor: &mut Cursor<'_>,
     open: &mut Vec<Open>,

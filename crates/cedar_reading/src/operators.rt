@@ -1,17 +1,17 @@
-// The operators, by how strongly they bind.
+// Operators, by how strongly they bind.
 use crate::cursor::Cursor;
 use crate::tokens::TokenKind;
 use cedar_types::base::{BinaryOp, EntityType, Expr, Loc};
 use std::alloc::{AllocError, Global};
 
-/// How strongly the parts of an expression hold together, the weakest first.
+/// The strength with which the parts of an expression bind, the weakest first.
 #[derive(Clone, Copy, PartialEq, Eq, PartialOrd, Ord, Debug)]
 pub enum Level {
-    /// A whole expression, as the one behind `else`: no operator goes on with it.
+    /// A whole expression, for example the one behind `else`: no operator goes on with it.
     Whole,
     Or,
     And,
-    /// Comparisons, `has`, `like` and `is`, of which none goes on with another.
+    /// Comparisons, `has`, `like` and `is`, none of which goes on with another.
     Relation,
     Sum,
     Product,
@@ -21,7 +21,7 @@ pub enum Level {
     Member,
 }
 
-/// What goes on with an operand.
+/// An operator that goes on with an operand.
 #[derive(Clone, Copy)]
 pub enum Operator {
     Between(Connective),
@@ -34,17 +34,17 @@ pub enum Operator {
     Bracket,
 }
 
-/// What stands between two operands.
+/// An operator between two operands.
 #[derive(Clone, Copy)]
 pub enum Connective {
     And,
     Or,
     Binary(BinaryOp),
-    /// An operator that is true where this one is false, as `!=`.
+    /// An operator that is true if this one is false, for example `!=`.
     Negated(BinaryOp),
 }
 
-/// The operator that comes next, if one does, and how strongly it binds.
+/// The operator that comes next, if there is one, and how strongly it binds.
 pub fn next_operator(cursor: &Cursor<'_>) -> Option<(Level, Operator)> {
     let token = cursor.peek();
     match token.kind {
@@ -93,7 +93,7 @@ fn word(text: &str) -> Option<(Level, Operator)> {
     Some((Level::Relation, operator))
 }
 
-/// Both operands with what stands between them. The whole stands at this place, also where it is negated.
+/// Both operands, joined by the connective. The whole stands at `place`, also if it is negated.
 pub fn join(
     alloc: Global,
     place: Loc,
@@ -112,7 +112,7 @@ pub fn join(
     }
 }
 
-/// How many nodes stand between the node of a connective and its operands.
+/// The number of nodes between the node of a connective and its operands.
 pub fn nodes_within(connective: Connective) -> usize {
     match connective {
         Connective::Negated(_) => 1,
@@ -120,7 +120,7 @@ pub fn nodes_within(connective: Connective) -> usize {
     }
 }
 
-/// `left is entity_type && left in right`, of which both sides stand at this place.
+/// The expression `left is entity_type && left in right`; both sides stand at `place`.
 pub fn is_in(
     alloc: Global,
     place: Loc,
@@ -138,7 +138,7 @@ pub fn is_in(
     )
 }
 
-/// The operator that is called like a method, if there is one of this name.
+/// The operator that is called like a method of this name, if there is one.
 pub fn method(name: &str) -> Option<BinaryOp> {
     match name {
         "contains" => Some(BinaryOp::Contains),

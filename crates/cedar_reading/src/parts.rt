@@ -1,4 +1,4 @@
-// Expressions that were read, with the text that they cover.
+// Parts: expressions that were read, with the text that they cover.
 use crate::cursor::{Cursor, MAX_GRAMMAR_STEPS};
 use crate::faults::{Fault, ReadError};
 use cedar_types::base::{Expr, Loc};
@@ -6,15 +6,15 @@ use cedar_types::base::{Expr, Loc};
 /// An expression that was read.
 #[derive(Drop)]
 pub struct Part {
-    /// Each node stands at its own text: a part in parentheses without them.
+    /// The expression. Each of its nodes stands at its own text, without parentheses around it.
     pub expr: Expr,
-    /// What was read of the text, parentheses included.
+    /// The text that was read, parentheses included.
     pub covers: Loc,
-    /// How many nodes stand inside each other, itself included: at most `MAX_GRAMMAR_STEPS`.
+    /// The number of nodes inside each other, the root included: at most `MAX_GRAMMAR_STEPS`.
     pub depth: usize,
 }
 
-/// An expression without parts, whose root stands at the text from this byte on.
+/// An expression without parts; its root covers the text from the byte `start` on.
 pub fn leaf_since(cursor: &Cursor<'_>, start: usize, expr: Expr) -> Part {
     let covers = cursor.since(start);
     Part {
@@ -24,8 +24,8 @@ pub fn leaf_since(cursor: &Cursor<'_>, start: usize, expr: Expr) -> Part {
     }
 }
 
-/// An expression around parts that are so deep, whose root stands at the text from this byte on. It fails where it is nested
-/// too deep.
+/// An expression around parts of depth `inner`; its root covers the text from the byte `start` on.
+/// It fails if it is nested too deep.
 pub fn part_since(
     cursor: &Cursor<'_>,
     start: usize,
@@ -44,7 +44,7 @@ pub fn part_since(
     })
 }
 
-/// The same part, with more text around it.
+/// The part `inner`, with parentheses around it from the byte `start` on.
 pub fn in_parentheses(cursor: &Cursor<'_>, start: usize, inner: Part) -> Part {
     Part {
         expr: inner.expr,

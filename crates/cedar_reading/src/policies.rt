@@ -1,18 +1,18 @@
-// The policies of a file, one after another.
+// Policies of a text, one after another.
 use crate::cursor::Cursor;
 use crate::faults::ReadError;
 use crate::policy_parts::{PolicyParts, read_parts};
 use cedar_types::base::{Effect, Template};
 use std::alloc::Global;
 
-/// A policy that was read: what it does, and what it asks.
+/// A policy that was read: its effect and its template.
 #[derive(Debug, Drop)]
 pub struct ReadPolicy {
     pub effect: Effect,
     pub template: Template,
 }
 
-/// Reads the policies of a text, one after another.
+/// Reader of the policies of a text, one after another.
 #[derive(Drop)]
 pub struct Policies<'a> {
     cursor: Cursor<'a>,
@@ -20,17 +20,17 @@ pub struct Policies<'a> {
 }
 
 impl<'a> Policies<'a> {
-    /// The policies of this text. It fails where the text is too long.
+    /// The policies of this text. It fails if the text is too long.
     pub fn new(alloc: Global, text: &'a str) -> Result<Policies<'a>, ReadError> {
         let cursor = Cursor::new(alloc, text)?;
         Ok(Policies { cursor, count: 0 })
     }
 
-    /// The next policy, or its first fault; `None` where the text has ended. After a fault reading goes on behind the policy's
-    /// `;`, or where the next one seems to begin.
+    /// The next policy, or its first fault; `None` if the text has ended. After a fault reading
+    /// goes on behind the policy's `;`, or at the byte at which the next one seems to begin.
     ///
-    /// A policy has its own text as its place, annotations included. Its id is what `@id` says, or `policy` and how many come
-    /// before it in the text, faulty ones included.
+    /// The place of a policy is its own text, annotations included. Its id is the value of `@id`,
+    /// or `policy` and the number of policies before it in the text, faulty ones included.
     pub fn next_policy(&mut self) -> Option<Result<ReadPolicy, ReadError>> {
         if self.cursor.is_at_end() {
             return None;
@@ -45,15 +45,15 @@ impl<'a> Policies<'a> {
     }
 }
 
-/// Reads a policy, before which there are so many.
+/// Reads a policy with `number` policies before it.
 fn policy(cursor: &mut Cursor<'_>, number: usize) -> Result<ReadPolicy, ReadError> {
     let mut parts = PolicyParts::new(cursor.alloc);
     let place = read_parts(cursor, &mut parts)?;
     parts.whole(cursor.alloc, place, number)
 }
 
-/// Where the next policy seems to begin, after a fault in the one that began at this byte. What was read of that one is
-/// passed again.
+/// A cursor at the byte at which the next policy seems to begin, after a fault in the policy that
+/// began at the byte `start`. Tokens that were read of that policy are passed again.
 pub fn next_policy_from<'a>(read: &Cursor<'a>, start: usize) -> Cursor<'a> {
     let mut cursor = read.at(start);
     let mut passed = Passed {
@@ -75,19 +75,20 @@ pub fn next_policy_from<'a>(read: &Cursor<'a>, start: usize) -> Cursor<'a> {
     cursor
 }
 
-/// What was passed of a faulty policy.
+/// The state of passing over a faulty policy.
 #[derive(Drop)]
 struct Passed {
-    /// Whether its own `permit` or `forbid` was.
+    /// Whether its own `permit` or `forbid` is passed.
     has_effect: bool,
-    /// How many brackets are open, those before its own `permit` or `forbid` left out.
+    /// The number of open brackets, without those before its own `permit` or `forbid`.
     depth: usize,
     /// Whether the last token was the `@` of an annotation.
     is_behind_at: bool,
 }
 
 impl Passed {
-    /// Whether another policy seems to begin here: where a bracket is still open, at the beginning of a line alone.
+    /// Whether another policy seems to begin here: if a bracket is open, then only at the beginning
+    /// of a line.
     fn ends_before(&self, cursor: &Cursor<'_>) -> bool {
         let is_at_annotation = cursor.is_at("@");
         if !self.has_effect || !(is_at_annotation || is_at_effect(cursor)) {
@@ -97,7 +98,7 @@ impl Passed {
         self.depth == 0 || (is_plain && cursor.begins_line())
     }
 
-    /// Passes the next token, which reading had passed or not.
+    /// Passes the next token; `was_read` says whether reading had passed it before.
     fn pass(&mut self, cursor: &mut Cursor<'_>, was_read: bool) {
         let is_effect = is_at_effect(cursor) && !self.is_behind_at;
         if is_effect && !self.has_effect && (was_read || is_before_scope(cursor)) {

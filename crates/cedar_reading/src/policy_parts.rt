@@ -1,4 +1,4 @@
-// A policy, part by part, so that the parts before a fault are kept.
+// Parts of a policy, read one by one so that the parts before a fault stay.
 use crate::annotations::{Annotation, add_annotations};
 use crate::cursor::{Cursor, MAX_GRAMMAR_STEPS};
 use crate::expressions::expression;
@@ -9,19 +9,19 @@ use crate::scopes::{ScopeParts, read_scope_parts};
 use cedar_types::base::{ActionConstraint, Expr, Loc, PolicyID, Template};
 use std::alloc::{AllocError, Global};
 
-/// What was read of a policy.
+/// The parts that were read of a policy.
 #[derive(Drop)]
 pub struct PolicyParts {
     pub annotations: Vec<Annotation>,
     pub scope: ScopeParts,
     /// The conditions that were read whole, all of which have to hold.
     pub condition: Option<Part>,
-    /// Behind the brace of the condition that was not read whole, if there is one.
+    /// The byte behind the brace of the condition that was not read whole, if there is one.
     pub open_condition: Option<usize>,
 }
 
 impl PolicyParts {
-    /// Nothing so far.
+    /// No parts so far.
     pub fn new(alloc: Global) -> PolicyParts {
         PolicyParts {
             annotations: Vec::new(alloc),
@@ -31,8 +31,8 @@ impl PolicyParts {
         }
     }
 
-    /// The id of the policy, before which there are so many: what `@id` says, the last where it is there twice, or `policy`
-    /// and the number.
+    /// The id of the policy with `number` policies before it: the value of `@id` (the last one, if
+    /// it stands twice), or `policy` and the number.
     pub fn id(&self, alloc: Global, number: usize) -> Result<PolicyID, AllocError> {
         for annotation in self.annotations.iter().rev() {
             if annotation.key.as_str() == "id" {
@@ -42,8 +42,8 @@ impl PolicyParts {
         PolicyID::from_string(alloc, format!(in alloc; "policy{number}")?.as_str())
     }
 
-    /// The policy of these parts, which stands at this place and before which there are so many. All of its scope has to be
-    /// there.
+    /// The policy of these parts, at `place` and with `number` policies before it. All of its scope
+    /// has to be read.
     pub fn whole(self, alloc: Global, place: Loc, number: usize) -> Result<ReadPolicy, ReadError> {
         let id = self.id(alloc, number)?;
         let PolicyParts {
@@ -68,7 +68,7 @@ impl PolicyParts {
     }
 }
 
-/// Reads a policy, each part into its field. The place of the whole.
+/// Reads a policy, each part into its field, and returns the place of the whole policy.
 pub fn read_parts(cursor: &mut Cursor<'_>, parts: &mut PolicyParts) -> Result<Loc, ReadError> {
     let start = cursor.start();
     add_annotations(cursor, &mut parts.annotations)?;
@@ -81,7 +81,7 @@ pub fn read_parts(cursor: &mut Cursor<'_>, parts: &mut PolicyParts) -> Result<Lo
     Ok(cursor.since(start))
 }
 
-/// Fails at the first action of a scope whose type is not named `Action` in its last part.
+/// Fails at the first action of the scope whose type has a last part other than `Action`.
 fn check_actions(constraint: &ActionConstraint) -> Result<(), ReadError> {
     let other = match constraint {
         ActionConstraint::Any => None,
@@ -101,7 +101,7 @@ fn start_of(place: Option<Loc>) -> usize {
     }
 }
 
-/// Reads what stands between a scope and the `;`: the conditions, all of which have to hold.
+/// Reads the conditions between the scope and the `;`, all of which have to hold.
 fn read_conditions(cursor: &mut Cursor<'_>, parts: &mut PolicyParts) -> Result<(), ReadError> {
     let start = cursor.start();
     // each condition nests those before it one deeper
@@ -116,8 +116,8 @@ fn read_conditions(cursor: &mut Cursor<'_>, parts: &mut PolicyParts) -> Result<(
     Err(cursor.fault(Fault::TooDeep))
 }
 
-/// Reads `when` or `unless`, and the condition in braces behind it. Where the condition is not read whole, it is said where
-/// it begins.
+/// Reads `when` or `unless`, and the condition in braces behind it. If the condition is not read
+/// whole, `open` keeps the byte at which it begins.
 fn one_condition(cursor: &mut Cursor<'_>, open: &mut Option<usize>) -> Result<Part, ReadError> {
     let start = cursor.start();
     let is_negated = cursor.take().text == "unless";
@@ -133,7 +133,8 @@ fn one_condition(cursor: &mut Cursor<'_>, open: &mut Option<usize>) -> Result<Pa
     part_since(cursor, start, read.depth, whole)
 }
 
-/// Both conditions, of which the first began at this byte; the next alone where there is none before it.
+/// Both conditions joined, of which the first began at the byte `start`; `next` alone if there is
+/// no condition before it.
 fn with_next(
     cursor: &Cursor<'_>,
     start: usize,

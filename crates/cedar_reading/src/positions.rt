@@ -1,4 +1,4 @@
-// Where a byte of a text stands, as people count.
+// Lines and columns of bytes, as people count them.
 
 /// A line of a text and a column of that line, in characters, each from 1 on.
 #[derive(Clone, Copy, PartialEq, Eq, Debug)]
@@ -8,8 +8,8 @@ pub struct Position {
 }
 
 impl Position {
-    /// Where a byte of a text stands. A line ends with `\n`; a `\r` before that is the line's last
-    /// character.
+    /// The line and column of the byte `at` of a text. A line ends with `\n`; a `\r` before that is
+    /// the line's last character.
     pub fn in_text(text: &str, at: usize) -> Position {
         let before = text.get(..at).unwrap_or(text);
         let line = before.split('\n').count();

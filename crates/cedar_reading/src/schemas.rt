@@ -1,15 +1,15 @@
-// Schemas, as Cedar's own syntax has them.
+// Schemas in Cedar's own syntax.
 mod actions;
 mod all_faults;
 pub mod applications;
 mod blocks;
 pub mod closed;
+mod components;
 mod cycles;
 mod declarations;
 mod descendants;
 pub mod entity_types;
 mod expansions;
-mod groups;
 mod language;
 pub mod lists;
 mod meanings;
@@ -38,19 +38,19 @@ pub use shadows::shadowing_name;
 use std::alloc::Global;
 use thiserror::Error;
 
-/// Why a text gives no schema.
+/// The reason why a text gives no schema.
 #[derive(Debug, Drop, Error)]
 pub enum SchemaReadError {
-    /// It cannot be read.
+    /// The text cannot be read.
     #[error("{0}")]
     Read(ReadError),
-    /// It can be read, and what it declares has a fault.
+    /// The text can be read, and its declarations have a fault.
     #[error("{0}")]
     Refused(SchemaError),
 }
 
 impl From<ReadError> for SchemaReadError {
-    /// A type that is not declared refuses the schema, wherever it is named.
+    /// The schema is refused if a type is not declared, wherever the text names it.
     fn from(error: ReadError) -> SchemaReadError {
         match error {
             ReadError::At(_, Fault::UnknownType) => {
@@ -62,7 +62,7 @@ impl From<ReadError> for SchemaReadError {
 }
 
 impl From<SchemaError> for SchemaReadError {
-    /// Want of memory is no fault of the text, wherever it shows.
+    /// Refused memory is no fault of the text, wherever it shows.
     fn from(error: SchemaError) -> SchemaReadError {
         match error {
             SchemaError::Memory(error) => SchemaReadError::Read(ReadError::Memory(error)),
@@ -75,19 +75,21 @@ impl From<SchemaError> for SchemaReadError {
 #[derive(Drop)]
 pub struct ReadSchema {
     pub schema: ValidatorSchema,
-    /// As `shadowing_name` finds it.
+    /// The name that `shadowing_name` finds.
     pub hiding: Option<RefusedName>,
 }
 
-/// The schema that a text declares. It fails where the text cannot be read, where a parent or a type of an alias in it is
-/// declared nowhere, and where `ValidatorSchema::new` refuses the declarations.
+/// The schema that a text declares. It fails if the text cannot be read, if a parent or a type of
+/// an alias in it is declared nowhere, and if `ValidatorSchema::new` refuses the declarations.
 ///
-/// Descendants are what `in` says, over any number of steps. An action without `appliesTo` applies to nothing.
+/// Descendants follow the `in` of the declarations, over any number of steps. An action without
+/// `appliesTo` applies to nothing.
 pub fn schema(alloc: Global, text: &str) -> Result<ValidatorSchema, SchemaReadError> {
     schema_of(alloc, schema_declarations(alloc, text)?)
 }
 
-/// The schema that a text declares, with the first name that hides another, in one reading. It fails as `schema` does.
+/// The schema that a text declares, with the first name that hides another, from one reading. It
+/// fails as `schema` does.
 pub fn schema_with_hiding(alloc: Global, text: &str) -> Result<ReadSchema, SchemaReadError> {
     let read = declarations_of(alloc, text, Named::Any)?;
     let declared = closed_declarations(alloc, &read)?;
@@ -108,20 +110,20 @@ pub fn schema_of(
     Ok(ValidatorSchema::new(alloc, declared.entity_types, declared.actions)?)
 }
 
-/// What `ValidatorSchema::new` takes.
+/// The arguments of `ValidatorSchema::new`.
 #[derive(Drop)]
 pub struct SchemaDeclarations {
     pub entity_types: Vec<ValidatorEntityType>,
     pub actions: Vec<ValidatorActionId>,
 }
 
-/// What a text declares, each name on its own. It fails where the text cannot be read, and where a parent or a type of an alias
-/// in it is declared nowhere.
+/// The declarations of a text, each name on its own. It fails if the text cannot be read, and if a
+/// parent or a type of an alias in it is declared nowhere.
 pub fn schema_declarations(alloc: Global, text: &str) -> Result<SchemaDeclarations, ReadError> {
     closed_declarations(alloc, &declarations_of(alloc, text, Named::Any)?)
 }
 
-/// What was read, each name on its own. It fails where a parent is declared nowhere.
+/// The declarations that were read, each name on its own. It fails if a parent is declared nowhere.
 fn closed_declarations(
     alloc: Global,
     read: &Declarations,
@@ -133,7 +135,8 @@ fn closed_declarations(
     })
 }
 
-/// What a text declares. It is read once; then names are looked up, because what a name means depends on what stands behind it.
+/// The declarations of a text. The text is read once; then names are looked up, because the meaning
+/// of a name depends on the text behind it.
 fn declarations_of(alloc: Global, text: &str, named: Named) -> Result<Declarations, ReadError> {
     let mut cursor = Cursor::new(alloc, text)?;
     let written = written_declarations(&mut cursor)?;

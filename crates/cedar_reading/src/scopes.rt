@@ -1,4 +1,4 @@
-// Policies: a scope, and perhaps a condition.
+// Policies: their scopes, and perhaps a condition.
 use crate::cursor::Cursor;
 use crate::expressions::expression;
 use crate::faults::{Expected, Fault, ReadError};
@@ -9,7 +9,7 @@ use cedar_types::base::{
 };
 use std::alloc::{AllocError, Global};
 
-/// The id of every policy that is read.
+/// The id of every policy that `policy` and `whole_policy` return.
 pub const POLICY: &str = "policy0";
 
 /// The constraints of a scope that was read.
@@ -21,7 +21,7 @@ pub struct Scope {
     pub resource: ResourceConstraint,
 }
 
-/// What was read of a scope: a part is `None` where a fault stands before its end.
+/// The parts that were read of a scope: a part is `None` if a fault stands before its end.
 #[derive(Default, Drop)]
 pub struct ScopeParts {
     pub effect: Option<Effect>,
@@ -31,7 +31,8 @@ pub struct ScopeParts {
 }
 
 impl ScopeParts {
-    /// The scope of these parts, which begins at this byte. It fails where one of them was not read.
+    /// The scope of these parts, which begins at the byte `start`. It fails if one of them was not
+    /// read.
     pub fn whole(self, start: usize) -> Result<Scope, ReadError> {
         let ScopeParts {
             effect,
@@ -72,7 +73,7 @@ pub fn read_scope(cursor: &mut Cursor<'_>) -> Result<Scope, ReadError> {
     parts.whole(start)
 }
 
-/// Reads a scope alone, each part into its field. So the parts before a fault are kept.
+/// Reads a scope alone, each part into its field, so that the parts before a fault stay.
 pub fn read_scope_parts(cursor: &mut Cursor<'_>, parts: &mut ScopeParts) -> Result<(), ReadError> {
     parts.effect = Some(effect(cursor)?);
     cursor.expect("(")?;
@@ -88,7 +89,7 @@ pub fn read_scope_parts(cursor: &mut Cursor<'_>, parts: &mut ScopeParts) -> Resu
     cursor.expect(")")
 }
 
-/// Reads what the policy does.
+/// Reads the effect of the policy.
 fn effect(cursor: &mut Cursor<'_>) -> Result<Effect, ReadError> {
     if cursor.takes("forbid") {
         return Ok(Effect::Forbid);
@@ -183,9 +184,10 @@ pub fn scope_alone(alloc: Global, text: &str) -> Result<Scope, ReadError> {
     Ok(read)
 }
 
-/// Reads a text that is a name and nothing else, words with `::` between them: `User` or `Acme::User`. It has no place.
+/// Reads a text that is a name and nothing else, words with `::` between them: `User` or
+/// `Acme::User`. The name has no place.
 ///
-/// It fails where the text cannot be read, also where it is an id, and where memory is refused.
+/// It fails if the text cannot be read, also if it is an id, and if memory is refused.
 pub fn name_alone(alloc: Global, text: &str) -> Result<Name, ReadError> {
     let mut cursor = Cursor::new(alloc, text)?;
     let read = placed_name(&mut cursor)?;
@@ -195,7 +197,7 @@ pub fn name_alone(alloc: Global, text: &str) -> Result<Name, ReadError> {
 
 /// Reads a text that is an id and nothing else: `User::"alice"`.
 ///
-/// It fails where the text cannot be read, also where it is a name alone, and where memory is refused.
+/// It fails if the text cannot be read, also if it is a name alone, and if memory is refused.
 pub fn uid_alone(alloc: Global, text: &str) -> Result<EntityUID, ReadError> {
     let mut cursor = Cursor::new(alloc, text)?;
     let read = entity_uid(&mut cursor)?;
@@ -203,8 +205,8 @@ pub fn uid_alone(alloc: Global, text: &str) -> Result<EntityUID, ReadError> {
     Ok(read)
 }
 
-/// Reads a text that is a policy and nothing else: `permit(principal, action, resource) when { .. };`. It stands at the
-/// whole text.
+/// Reads a text that is a policy and nothing else: `permit(principal, action, resource) when { ..
+/// };`. The policy stands at the whole text.
 pub fn whole_policy(alloc: Global, text: &str) -> Result<Template, ReadError> {
     let mut cursor = Cursor::new(alloc, text)?;
     let start = cursor.start();
@@ -222,7 +224,7 @@ pub fn whole_policy(alloc: Global, text: &str) -> Result<Template, ReadError> {
     Ok(read)
 }
 
-/// The text has to end here.
+/// Fails if the text does not end here.
 pub fn finish(cursor: &Cursor<'_>) -> Result<(), ReadError> {
     if cursor.is_at_end() {
         Ok(())

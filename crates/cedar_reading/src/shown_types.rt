@@ -1,4 +1,5 @@
-// Types as they are shown. Each call goes one step deeper into the grammar, up to `MAX_GRAMMAR_STEPS`.
+// Types in the notation in which they are shown. Each call goes one step deeper into the grammar,
+// up to `MAX_GRAMMAR_STEPS`.
 use crate::cursor::{Cursor, MAX_GRAMMAR_STEPS};
 use crate::faults::{Fault, ReadError};
 use crate::members::key;
@@ -10,12 +11,13 @@ use cedar_types::base::{
 use std::alloc::Global;
 use std::collections::BTreeMap;
 
-/// Reads a text that is a type, as types are shown, and nothing else: `Group|User` for either of them, `entity` for any
-/// entity, `{user: User, nick?: Set<Long>}`, with `..` as its last item where the record may have others, `Set` for a set of
-/// anything, `Never`, `Bool`, `True`, `False`, `Long`, `String`.
+/// Reads a text that is a shown type and nothing else: `Group|User` for either of them, `entity`
+/// for any entity, `{user: User, nick?: Set<Long>}` with `..` as its last item if the record may
+/// have others, `Set` for a set of anything, `Never`, `Bool`, `True`, `False`, `Long`, `String`.
 ///
-/// `ipaddr`, `decimal`, `datetime` and `duration` are extension types, and any other name is one of an entity type, which need
-/// not be declared. No name has a place. It fails where the text cannot be read, and where memory is refused.
+/// `ipaddr`, `decimal`, `datetime` and `duration` are extension types. Any other name is one of an
+/// entity type, which need not be declared. No name has a place. It fails if the text cannot be
+/// read, and if memory is refused.
 pub fn type_alone(alloc: Global, text: &str) -> Result<CedarType, ReadError> {
     let mut cursor = Cursor::new(alloc, text)?;
     let read = read_shown_type(&mut cursor, MAX_GRAMMAR_STEPS)?;
@@ -43,7 +45,8 @@ pub fn read_shown_type(cursor: &mut Cursor<'_>, left: usize) -> Result<CedarType
     Ok(CedarType::set(cursor.alloc, element)?)
 }
 
-/// Reads the attributes of a record behind its `{`, with commas between them, and the end of the record.
+/// Reads the attributes of a record behind its `{`, with commas between them, and the end of the
+/// record.
 #[cycle(shown_types)]
 fn read_shown_record(cursor: &mut Cursor<'_>, left: usize) -> Result<CedarType, ReadError> {
     let Some(left) = left.checked_sub(1) else {
@@ -74,7 +77,8 @@ fn read_shown_record(cursor: &mut Cursor<'_>, left: usize) -> Result<CedarType, 
     Ok(CedarType::record_with_attributes(attributes, is_open))
 }
 
-/// Reads the end of a record, if it comes next: a brace, or two points and a brace where the record is open.
+/// Reads the end of a record, if it comes next: a brace, or two points and a brace if the record is
+/// open.
 fn end_of_record(cursor: &mut Cursor<'_>) -> Result<Option<OpenTag>, ReadError> {
     if cursor.takes("}") {
         return Ok(Some(OpenTag::ClosedAttributes));
@@ -108,7 +112,7 @@ fn named_type(cursor: &mut Cursor<'_>) -> Result<CedarType, ReadError> {
     Ok(CedarType::Entity(EntityKind::Entity(types)))
 }
 
-/// The type of this name that is neither one of entities nor an extension type, if there is one.
+/// The type of this name, if it is neither an entity type nor an extension type.
 fn type_by_name(name: &Name) -> Option<CedarType> {
     if !name.path.is_empty() {
         return None;

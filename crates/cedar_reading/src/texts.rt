@@ -1,11 +1,11 @@
-// What stands in quotes.
+// Texts and patterns in quotes, and their escapes.
 use crate::cursor::Cursor;
 use crate::faults::{Expected, Fault, ReadError};
 use crate::tokens::TokenKind;
 use cedar_types::base::PatternElem;
 use std::alloc::Global;
 
-/// Reads a text in quotes: what it says.
+/// Reads a text in quotes, and returns its content.
 pub fn text(cursor: &mut Cursor<'_>) -> Result<String, ReadError> {
     let alloc = cursor.alloc;
     let mut plain = String::new(alloc);
@@ -42,7 +42,8 @@ pub fn pattern(cursor: &mut Cursor<'_>) -> Result<Vec<PatternElem>, ReadError> {
     Ok(parts)
 }
 
-/// The characters of a text, its escapes replaced by what they stand for. `None` where an escape is none.
+/// The characters of a text, with its escapes replaced by the characters they stand for. `None` if
+/// an escape is invalid.
 fn unescape(alloc: Global, text: &str) -> Result<Option<Vec<PatternElem>>, ReadError> {
     let mut parts = Vec::new(alloc);
     let mut escape = Escape::Outside;
@@ -58,20 +59,21 @@ fn unescape(alloc: Global, text: &str) -> Result<Option<Vec<PatternElem>>, ReadE
     Ok((escape == Escape::Outside).then_some(parts))
 }
 
-/// How much of an escape was read.
+/// The part of an escape that was read.
 #[derive(Clone, Copy, PartialEq, Eq)]
 enum Escape {
     Outside,
     Backslash,
-    /// `\x`, the value of the digits behind it, and how many they are.
+    /// `\x`, the value of the digits behind it, and the number of digits.
     Byte(u32, u8),
     /// `\u`.
     Unicode,
-    /// `\u{`, the value of the digits behind it, and how many they are.
+    /// `\u{`, the value of the digits behind it, and the number of digits.
     Braces(u32, u8),
 }
 
-/// What follows when a character is read, and what it completes. `None` where no escape goes on so.
+/// The state after the character `c`, and the element that `c` completes. `None` if no escape goes
+/// on so.
 fn step(escape: Escape, c: char) -> Option<(Escape, Option<PatternElem>)> {
     match escape {
         Escape::Outside => Some(plain(c)),

@@ -1,21 +1,21 @@
-// The smallest parts of a text: words, numbers, texts in quotes, and marks.
+// Tokens, the smallest parts of a text: words, numbers, texts in quotes, and marks.
 mod plain;
 
 use cedar_types::base::Loc;
 use plain::plain_token;
 
-/// What a token is.
+/// The kind of a token.
 #[derive(Clone, Copy, PartialEq, Eq, Debug)]
 pub enum TokenKind {
     /// A letter or `_`, and letters, digits and `_` behind it.
     Word,
     /// Digits.
     Number,
-    /// What stands in quotes, the quotes included.
+    /// A text in quotes, the quotes included.
     Text,
     /// One of `MARKS`.
     Mark,
-    /// A text without its end, or a character that begins nothing.
+    /// A text without its end, or a character that begins no token.
     Unknown,
     /// The end of the text.
     End,
@@ -29,7 +29,7 @@ pub struct Token<'a> {
     pub place: Loc,
 }
 
-/// The marks. A longer one stands before those that it begins with.
+/// The marks. A longer mark stands before the shorter marks it begins with.
 const MARKS: [&str; 27] = [
     "==", "!=", "<=", ">=", "&&", "||", "::", "(", ")", "[", "]", "{", "}", ",", ";", ":", ".",
     "?", "!", "<", ">", "+", "-", "*", "=", "|", "@",
@@ -43,7 +43,7 @@ pub fn token_from(text: &str, from: usize) -> Token<'_> {
     }
 }
 
-/// The first token, whatever characters it has, and whatever stands before it.
+/// The first token from the byte `from` on, with any characters in it and any text before it.
 fn any_token(text: &str, from: usize) -> Token<'_> {
     let rest = after_blanks(text.get(from..).unwrap_or(""));
     let start = text.len().saturating_sub(rest.len());
@@ -57,13 +57,14 @@ fn any_token(text: &str, from: usize) -> Token<'_> {
     }
 }
 
-/// What stands at a byte of a text: a word, a number, a text in quotes or a mark; empty at the end.
+/// The token at a byte of a text: a word, a number, a text in quotes or a mark; empty at the end.
 pub fn token_text(text: &str, at: usize) -> &str {
     token_from(text, at).text
 }
 
-/// The text behind the blanks and the comments at its beginning. A comment goes from `//` to the end of its line: to a line
-/// feed or a carriage return, as Cedar reads it. Else a carriage return alone would hide what stands behind it.
+/// The text behind the blanks and the comments at its beginning. A comment goes from `//` to the
+/// end of its line: to a line feed or a carriage return, as Cedar reads it. If only a line feed
+/// ended it, a carriage return alone would hide the text behind it.
 fn after_blanks(text: &str) -> &str {
     let mut rest = text.trim_start();
     for _ in 0..text.len() {
@@ -82,7 +83,7 @@ fn after_line(text: &str) -> &str {
     }
 }
 
-/// What the text begins with, and how many bytes that has.
+/// The kind of the first token, and its length in bytes.
 fn first_of(text: &str) -> (TokenKind, usize) {
     match text.chars().next() {
         None => (TokenKind::End, 0),
@@ -97,13 +98,13 @@ fn is_in_word(c: char) -> bool {
     c.is_alphanumeric() || c == '_'
 }
 
-/// How many bytes the digits at the beginning have.
+/// The length in bytes of the digits at the beginning.
 fn digits(text: &str) -> usize {
     text.find(|c: char| !c.is_ascii_digit())
         .unwrap_or(text.len())
 }
 
-/// How many bytes the word at the beginning has.
+/// The length in bytes of the word at the beginning.
 fn word(text: &str) -> usize {
     text.find(|c: char| !is_in_word(c)).unwrap_or(text.len())
 }
@@ -117,7 +118,7 @@ fn mark(text: &str, first: char) -> (TokenKind, usize) {
     (TokenKind::Unknown, first.len_utf8())
 }
 
-/// A text in quotes: a backslash takes the character behind it along.
+/// Scans a text in quotes: a backslash takes the next character along.
 fn scan_quoted(text: &str) -> (TokenKind, usize) {
     let mut is_escaped = false;
     for (at, c) in text.char_indices().skip(1) {

@@ -1,4 +1,4 @@
-// Declarations of actions.
+// Action declarations: reading them, and the meaning of their names.
 use crate::cursor::Cursor;
 use crate::faults::{Fault, ReadError};
 use crate::members::key;
@@ -49,7 +49,8 @@ impl Listable for Placed<EntityUID> {
 }
 
 impl Listable for WrittenAction {
-    /// Reads an action that is declared elsewhere: its id as a name or as a text, or as a text behind its type.
+    /// Reads an action that is declared elsewhere: its id as a name or as a text, or as a text
+    /// behind its type.
     fn read(cursor: &mut Cursor<'_>, _namespace: &[&str]) -> Result<Self, ReadError> {
         let alloc = cursor.alloc;
         let start = cursor.start();
@@ -81,7 +82,7 @@ impl Listable for WrittenAction {
     }
 }
 
-/// The declaration, with what the names in it mean.
+/// The declaration, with the meaning of the names in it.
 pub fn meant_actions(
     written: WrittenActions,
     names: &Names<'_>,

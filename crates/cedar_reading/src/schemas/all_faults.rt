@@ -1,4 +1,4 @@
-// All faults of a schema's text.
+// Faults of a schema's text, all of them.
 use crate::cursor::Cursor;
 use crate::faults::{Fault, ReadError};
 use crate::names::placed_name;
@@ -12,22 +12,22 @@ use crate::schemas::shadows::hiding_names;
 use cedar_types::base::SchemaError;
 use std::alloc::{AllocError, Global};
 
-/// How many faults of a text are told.
+/// The largest number of faults that are reported of a text.
 const MAX_FAULTS: usize = 100;
 
 /// A fault of a schema's text.
 #[derive(Debug, Drop)]
 pub enum SchemaFault {
-    /// What stands at this byte cannot be read, or names what is not declared.
+    /// The text at this byte cannot be read, or it names something that is not declared.
     Read(usize, Fault),
-    /// For this name `ValidatorSchema::new` refuses what is declared.
+    /// `ValidatorSchema::new` refuses the declarations because of this name.
     Refused(SchemaError, RefusedName),
     /// This name of a namespace hides one outside of namespaces.
     Hides(RefusedName),
 }
 
 impl SchemaFault {
-    /// The byte at which it stands.
+    /// Byte at which the fault stands.
     pub fn start(&self) -> usize {
         match self {
             SchemaFault::Read(start, _) => *start,
@@ -36,11 +36,12 @@ impl SchemaFault {
     }
 }
 
-/// The faults of a schema's text by place, the first hundred, at each place one; none may be found though `schema` finds one.
+/// The faults of a schema's text by place, at most the first hundred, one at each place. The list
+/// may be empty though `schema` finds a fault.
 ///
-/// Behind a fault that shows where another word is expected reading goes on at the next declaration. What such a declaration
-/// may declare counts as declared. Not looked for are a type that is too deep or too large for its aliases alone, and too
-/// many descendants.
+/// Behind a fault that shows because another word is expected, reading goes on at the next
+/// declaration. Each name that such a declaration may declare counts as declared. It does not look
+/// for types that only aliases make too deep or too large, nor for too many descendants.
 pub fn schema_faults(alloc: Global, text: &str) -> Result<Vec<SchemaFault>, AllocError> {
     match unsorted_faults(alloc, text) {
         Ok(faults) => first_by_place(alloc, faults),
@@ -49,7 +50,7 @@ pub fn schema_faults(alloc: Global, text: &str) -> Result<Vec<SchemaFault>, Allo
     }
 }
 
-/// The faults, by place, and at each place the first of them.
+/// The first fault at each place, by place.
 fn first_by_place(
     alloc: Global,
     mut faults: Vec<SchemaFault>,
@@ -111,7 +112,7 @@ fn add_met(
     Ok(())
 }
 
-/// The name at a byte, as it is written.
+/// The name at a byte, as it is written in the text.
 fn name_at(cursor: &Cursor<'_>, start: usize) -> Result<RefusedName, ReadError> {
     let read = placed_name(&mut cursor.at(start))?;
     Ok(RefusedName {

@@ -1,4 +1,4 @@
-// What actions apply to.
+// Applications: the principals, resources and contexts of actions.
 use crate::cursor::{Cursor, MAX_GRAMMAR_STEPS};
 use crate::faults::{Expected, Fault, ReadError};
 use crate::notes::Met;
@@ -14,7 +14,7 @@ use std::alloc::{AllocError, Global};
 use std::collections::{BTreeMap, BTreeSet};
 use std::rc::Rc;
 
-/// Which parts of what an action applies to were read.
+/// The parts of `appliesTo` that are read.
 #[derive(Clone, Copy)]
 struct PartsRead {
     has_principals: bool,
@@ -23,7 +23,7 @@ struct PartsRead {
 }
 
 impl PartsRead {
-    /// Reads a part that is not there so far.
+    /// Reads a part that was not read before. It fails at a part that was.
     fn read_part(&mut self, cursor: &mut Cursor<'_>) -> Result<WrittenPart, ReadError> {
         match cursor.peek().text {
             "principal" if !self.has_principals => {
@@ -47,7 +47,7 @@ impl PartsRead {
         }
     }
 
-    /// Fails where there are no principals or no resources, which have to be there.
+    /// Fails if there are no principals or no resources, because `appliesTo` has to have both.
     fn check(self, cursor: &Cursor<'_>) -> Result<(), ReadError> {
         if !self.has_principals {
             return Err(cursor.fault(Fault::Expected(Expected::Principal)));
@@ -59,7 +59,8 @@ impl PartsRead {
     }
 }
 
-/// Reads what an action applies to: its principals and its resources, and perhaps a context, in any order.
+/// Reads the parts of `appliesTo`: the principals, the resources, and perhaps a context, in any
+/// order.
 pub fn application(cursor: &mut Cursor<'_>) -> Result<Vec<WrittenPart>, ReadError> {
     cursor.expect("{")?;
     let mut read = PartsRead {
@@ -82,7 +83,7 @@ pub fn application(cursor: &mut Cursor<'_>) -> Result<Vec<WrittenPart>, ReadErro
     Ok(parts)
 }
 
-/// Reads the types of the principal or of the resource, and that word before them.
+/// Reads the word `principal` or `resource`, and the types behind it.
 fn applied_types(
     cursor: &mut Cursor<'_>,
     variable: &'static str,
@@ -105,7 +106,7 @@ fn context(cursor: &mut Cursor<'_>) -> Result<WrittenType, ReadError> {
     if let WrittenType::Named(name) = &read {
         cursor.notes.mention(name, Role::Context)?;
     }
-    // the fault is noted here too, as the declaration may have another behind it
+    // the fault is noted here too, because the declaration may have another fault behind it
     let is_set = matches!(&read, WrittenType::Set(_, _) | WrittenType::Known(_, _));
     if is_set && cursor.notes.are_taken() {
         cursor.notes.meet(read.start(), Met::VagueContext)?;
@@ -113,7 +114,7 @@ fn context(cursor: &mut Cursor<'_>) -> Result<WrittenType, ReadError> {
     Ok(read)
 }
 
-/// What these parts mean together: without any, that an action applies to nothing.
+/// The meaning of these parts together. Without parts the action applies to nothing.
 pub fn meant_application(
     parts: &Vec<WrittenPart>,
     names: &Names<'_>,
@@ -149,7 +150,7 @@ fn meant_applied(
     Ok(types)
 }
 
-/// The type of a context, which has to be a record where names have to be known.
+/// The type of a context, which has to be a record if names have to be known.
 fn meant_context(
     written: &WrittenType,
     names: &Names<'_>,
@@ -172,7 +173,7 @@ fn check_context(
     Ok(())
 }
 
-/// Meets the faults of a name that was read of a declaration with a fault behind it.
+/// Notes the faults of a name in a declaration with a fault behind that name.
 pub fn check_mention(
     mention: &Mention,
     names: &Names<'_>,
@@ -190,7 +191,7 @@ pub fn check_mention(
     Ok(())
 }
 
-/// What an action without `appliesTo` applies to.
+/// The application of an action without `appliesTo`.
 pub fn application_to_nothing(alloc: Global) -> Result<ValidatorApplySpec, AllocError> {
     Ok(ValidatorApplySpec {
         principal_apply_spec: BTreeSet::new(alloc),
@@ -199,7 +200,7 @@ pub fn application_to_nothing(alloc: Global) -> Result<ValidatorApplySpec, Alloc
     })
 }
 
-/// The type of a context that is not given.
+/// The type of a context that is not given: an empty record.
 pub fn empty_record(alloc: Global) -> Result<CedarType, AllocError> {
     let attributes = Attributes::with_attributes(alloc, BTreeMap::new(alloc))?;
     Ok(CedarType::record_with_attributes(attributes, OpenTag::ClosedAttributes))

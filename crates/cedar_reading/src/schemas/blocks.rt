@@ -1,4 +1,4 @@
-// The whole of a schema's text, and its namespaces.
+// Blocks: the whole text of a schema, and its namespaces.
 use crate::annotations::pass_annotations;
 use crate::cursor::{Cursor, MAX_GRAMMAR_STEPS};
 use crate::faults::{Expected, Fault, ReadError};
@@ -13,7 +13,7 @@ use crate::schemas::written::{Alias, Item, Space};
 use cedar_types::base::Name;
 use std::alloc::AllocError;
 
-/// Reads the declarations from here on. Where faults are noted, those without a fault.
+/// Reads the declarations from here on. If faults are noted, it leaves out those with a fault.
 pub fn written_declarations<'a>(cursor: &mut Cursor<'a>) -> Result<Written<'a>, ReadError> {
     let mut read = Written {
         declared: Declared::new(cursor.alloc),
@@ -138,7 +138,7 @@ fn declaration(
     }
 }
 
-/// Reads a declaration of a name for a type behind its first word, and adds it.
+/// Reads an alias declaration behind its first word, and adds it.
 fn alias_declaration(
     cursor: &mut Cursor<'_>,
     namespace: &[&str],

@@ -1,4 +1,4 @@
-// Declarations as a schema takes them: each name on its own, with its descendants.
+// Closed declarations, as a schema takes them: each name on its own, with its descendants.
 use crate::faults::{Fault, ReadError};
 use crate::schemas::declarations::Declarations;
 use crate::schemas::descendants::{Family, MAX_DESCENDANTS};
@@ -8,7 +8,8 @@ use cedar_types::base::{
 };
 use std::alloc::{AllocError, Global};
 
-/// The declared entity types. It fails where too many are in others.
+/// The declared entity types, each with its descendants. It fails if there are too many
+/// descendants.
 pub fn closed_types(
     alloc: Global,
     read: &Declarations,
@@ -31,7 +32,8 @@ pub fn closed_types(
     Ok(types)
 }
 
-/// How many descendants there are with these, which are those of the name at this byte. It fails where that is too many.
+/// The number of descendants with `more` descendants of the name at the byte `start` added. It
+/// fails if that is too many.
 fn add_count(before: usize, more: usize, start: usize) -> Result<usize, ReadError> {
     let count = before.saturating_add(more);
     if count > MAX_DESCENDANTS {
@@ -41,7 +43,7 @@ fn add_count(before: usize, more: usize, start: usize) -> Result<usize, ReadErro
     }
 }
 
-/// A copy.
+/// A copy of the kind.
 pub fn copy_of_kind(
     alloc: Global,
     kind: &ValidatorEntityTypeKind,
@@ -68,7 +70,7 @@ fn copy_of_ids(alloc: Global, ids: &EnumChoices) -> Result<EnumChoices, AllocErr
     EnumChoices::new(alloc, copies)
 }
 
-/// The declared actions. It fails where too many are in others.
+/// The declared actions, each with its descendants. It fails if there are too many descendants.
 pub fn closed_actions(
     alloc: Global,
     read: &Declarations,
@@ -91,7 +93,7 @@ pub fn closed_actions(
     Ok(actions)
 }
 
-/// A copy.
+/// A copy of the kind of an action.
 pub fn copy_of_action_kind(kind: &ValidatorActionKind) -> Result<ValidatorActionKind, AllocError> {
     match kind {
         ValidatorActionKind::Defined(applies_to) => {

@@ -1,11 +1,11 @@
-// Common types that stand in themselves.
+// Cycles of aliases: common types that stand in their own types.
 use crate::notes::AliasUse;
+use crate::schemas::components::{Graph, component_of_each};
 use crate::schemas::declarations::Declared;
-use crate::schemas::groups::{Graph, group_of_each};
 use std::alloc::{AllocError, Global};
 use std::collections::{BTreeMap, BTreeSet};
 
-/// Where in each cycle of aliases the first of them stands in the type of one.
+/// For each cycle of aliases, the byte at which the first of them stands in the type of one.
 pub fn alias_cycles(
     alloc: Global,
     declared: &Declared,
@@ -18,15 +18,15 @@ pub fn alias_cycles(
     let mut graph = Graph::new(alloc, numbers.len())?;
     for it in uses {
         if let (Some(user), Some(used)) = (numbers.get(&it.user), numbers.get(&it.used)) {
-            graph.add(*used, *user)?;
+            graph.add_successor(*used, *user)?;
         }
     }
-    let groups = group_of_each(&graph)?;
+    let components = component_of_each(&graph)?;
     let mut told = BTreeSet::new(alloc);
     let mut found = Vec::new(alloc);
     for it in uses {
-        let of_user = group_of(&numbers, &groups, it.user);
-        if of_user.is_some() && of_user == group_of(&numbers, &groups, it.used) {
+        let of_user = component_of(&numbers, &components, it.user);
+        if of_user.is_some() && of_user == component_of(&numbers, &components, it.used) {
             if told.insert(of_user)? {
                 found.push(it.start)?;
             }
@@ -35,14 +35,14 @@ pub fn alias_cycles(
     Ok(found)
 }
 
-/// The group of the alias whose name is declared at this byte.
-fn group_of(
+/// The component of the alias that is declared at the byte `own_start`.
+fn component_of(
     numbers: &BTreeMap<usize, usize>,
-    groups: &Vec<Option<usize>>,
+    components: &Vec<Option<usize>>,
     own_start: usize,
 ) -> Option<usize> {
     match numbers.get(&own_start) {
-        Some(number) => groups.get(*number).copied().flatten(),
+        Some(number) => components.get(*number).copied().flatten(),
         None => None,
     }
 }

@@ -1,4 +1,4 @@
-// The declarations that were read of a schema's text, and their names.
+// Declarations that were read of a schema's text, and their names.
 use crate::faults::{Fault, ReadError};
 use crate::schemas::language::primitive_of;
 use crate::schemas::unsure::UnsureNames;
@@ -13,7 +13,7 @@ use std::collections::{BTreeMap, BTreeSet};
 #[derive(Drop)]
 pub struct Declaration<N, K> {
     pub names: Vec<Placed<N>>,
-    /// What each of them is in, as the declaration says.
+    /// The direct parents of each of the names, as the declaration says.
     pub parents: Vec<Placed<N>>,
     pub kind: K,
 }
@@ -27,18 +27,18 @@ pub type ActionDeclaration = Declaration<EntityUID, ValidatorActionKind>;
 /// The names that a text declares.
 #[derive(Drop)]
 pub struct Declared {
-    /// Of aliases of one name the first.
+    /// The aliases by name; of aliases with one name, the first.
     pub aliases: BTreeMap<Name, Alias>,
     type_names: BTreeSet<EntityType>,
     action_names: BTreeSet<EntityUID>,
-    /// Whether the last part of an entity type's name is the word of a primitive type.
+    /// Whether an entity type has the word of a primitive type as the last part of its name.
     pub has_primitive_word: bool,
-    /// What declarations with a fault may declare.
+    /// The names that declarations with a fault may declare.
     pub unsure: UnsureNames,
 }
 
 impl Declared {
-    /// None so far.
+    /// No names so far.
     pub fn new(alloc: Global) -> Declared {
         Declared {
             aliases: BTreeMap::new(alloc),
@@ -49,7 +49,7 @@ impl Declared {
         }
     }
 
-    /// Adds an alias, in the place of one of its name.
+    /// Adds an alias; it replaces an alias with this name.
     pub fn add_alias(&mut self, alias: Alias) -> Result<(), AllocError> {
         let name = alias.name.clone()?;
         self.aliases.insert(name, alias)?;
@@ -80,7 +80,7 @@ impl Declared {
         self.type_names.contains(name)
     }
 
-    /// Whether this entity type is declared, or may be.
+    /// Whether this entity type is declared or may be declared by a declaration with a fault.
     pub fn may_have_type(&self, name: &EntityType) -> bool {
         self.has_type(name) || self.unsure.has(&name.name.basename)
     }
@@ -91,7 +91,7 @@ impl Declared {
     }
 }
 
-/// What a text declares, in its order, and the names of that.
+/// The declarations of a text, in its order, and the names that they declare.
 #[derive(Drop)]
 pub struct Written<'a> {
     pub declared: Declared,
@@ -125,7 +125,7 @@ impl<'a> Written<'a> {
     }
 }
 
-/// What a text declares, in its order, with what the names in it mean.
+/// The declarations of a text, in its order, with the meanings of the names in them.
 #[derive(Drop)]
 pub struct Declarations {
     pub declared: Declared,
@@ -134,7 +134,8 @@ pub struct Declarations {
 }
 
 impl Declarations {
-    /// Where the parents stand that are not declared, nor may be.
+    /// The bytes of the parents that are not declared and that no declaration with a fault may
+    /// declare.
     pub fn unknown_parents(&self, alloc: Global) -> Result<Vec<usize>, AllocError> {
         let declared = &self.declared;
         let mut starts = Vec::new(alloc);
@@ -151,7 +152,7 @@ impl Declarations {
         Ok(starts)
     }
 
-    /// Fails where a parent is not declared, with the place of the first.
+    /// Fails if a parent is not declared, with the place of the first one.
     pub fn check_parents(&self) -> Result<(), ReadError> {
         let declared = &self.declared;
         let missing_type = undeclared_parent(self.entity_types.as_slice(), &declared.type_names);
@@ -163,7 +164,7 @@ impl Declarations {
     }
 }
 
-/// Adds names to those that are known.
+/// Adds names to the known names.
 fn add_names<N: Ord + Clone + Drop>(
     names: &[Placed<N>],
     known: &mut BTreeSet<N>,
@@ -174,7 +175,7 @@ fn add_names<N: Ord + Clone + Drop>(
     Ok(())
 }
 
-/// Where the first parent stands that is not declared.
+/// The byte of the first parent that is not declared.
 fn undeclared_parent<N: Ord, K>(
     declared: &[Declaration<N, K>],
     names: &BTreeSet<N>,

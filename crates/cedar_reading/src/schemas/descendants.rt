@@ -1,27 +1,28 @@
-// What is in what, over any number of steps.
+// Descendants of names, over any number of steps.
 use crate::faults::{Fault, ReadError};
+use crate::schemas::components::{Components, Graph};
 use crate::schemas::declarations::Declaration;
-use crate::schemas::groups::{Graph, Groups};
 use crate::schemas::written::Placed;
 use std::alloc::{AllocError, Global};
 use std::collections::{BTreeMap, BTreeSet};
 
-/// How many descendants all names may have together; and how many parents the declarations may give their names.
+/// The largest number of descendants of all names together; also the largest number of parents that
+/// the declarations may give their names.
 pub const MAX_DESCENDANTS: usize = 1 << 20;
 
-/// What is declared in each name, over any number of steps.
+/// The descendants of each declared name, over any number of steps.
 #[derive(Drop)]
 pub struct Family<'a, N: Ord> {
     alloc: Global,
     /// The declared names that are in others or have others in them, each once.
     names: Vec<&'a N>,
-    /// Where each of them stands there.
+    /// The position of each name in `names`.
     numbers: BTreeMap<&'a N, usize>,
-    groups: Groups,
+    components: Components,
 }
 
 impl<'a, N: Ord + Clone + Drop> Family<'a, N> {
-    /// Of these declarations. It fails where too many are in others.
+    /// The family of these declarations. It fails if there are too many descendants or parents.
     pub fn new<K>(
         alloc: Global,
         declared: &'a [Declaration<N, K>],
@@ -30,35 +31,36 @@ impl<'a, N: Ord + Clone + Drop> Family<'a, N> {
         let (names, numbers) = number_names(alloc, declared)?;
         let mut graph = Graph::new(alloc, names.len())?;
         for declaration in declared {
-            add_steps(&mut graph, &numbers, declaration)?;
+            add_edges(&mut graph, &numbers, declaration)?;
         }
-        let groups = match Groups::new(&graph, MAX_DESCENDANTS)? {
-            Ok(groups) => groups,
+        let components = match Components::new(&graph, MAX_DESCENDANTS)? {
+            Ok(components) => components,
             Err(number) => return Err(too_many(declared, names.get(number).copied())),
         };
         Ok(Family {
             alloc,
             names,
             numbers,
-            groups,
+            components,
         })
     }
 
-    /// The descendants of a name that is declared. It is among them itself where it is in one of them.
+    /// The descendants of a declared name. They include the name itself if it is in one of its
+    /// descendants.
     pub fn descendants_of(&self, own: &'a N) -> Result<BTreeSet<N>, AllocError> {
         let mut found = BTreeSet::new(self.alloc);
         let Some(number) = self.numbers.get(&own) else {
             return Ok(found);
         };
-        for group in self.groups.below(*number) {
-            self.add_members(*group, &mut found)?;
+        for component in self.components.reachable_from(*number) {
+            self.add_members(*component, &mut found)?;
         }
         Ok(found)
     }
 
-    /// Adds the names of a group.
-    fn add_members(&self, group: usize, found: &mut BTreeSet<N>) -> Result<(), AllocError> {
-        for member in self.groups.members(group) {
+    /// Adds the names of a component.
+    fn add_members(&self, component: usize, found: &mut BTreeSet<N>) -> Result<(), AllocError> {
+        for member in self.components.members(component) {
             if let Some(name) = self.names.get(*member) {
                 found.insert((*name).clone()?)?;
             }
@@ -67,20 +69,21 @@ impl<'a, N: Ord + Clone + Drop> Family<'a, N> {
     }
 }
 
-/// Fails where the declarations give their names too many parents, of which each is a step.
+/// Fails if the declarations give their names too many parents; each parent of a name is an edge.
 fn check_parents<N, K>(declared: &[Declaration<N, K>]) -> Result<(), ReadError> {
-    let mut steps = 0usize;
+    let mut edges = 0usize;
     for declaration in declared {
         let own = declaration.names.len();
-        steps = steps.saturating_add(own.saturating_mul(declaration.parents.len()));
-        if steps > MAX_DESCENDANTS {
+        edges = edges.saturating_add(own.saturating_mul(declaration.parents.len()));
+        if edges > MAX_DESCENDANTS {
             return Err(fault_at(declaration.names.first()));
         }
     }
     Ok(())
 }
 
-/// The declared names that are in others or have others in them, each once, and where each stands among them.
+/// The declared names that are in others or have others in them, each once, and the position of
+/// each.
 fn number_names<'a, N: Ord, K>(
     alloc: Global,
     declared: &'a [Declaration<N, K>],
@@ -104,7 +107,7 @@ fn number_names<'a, N: Ord, K>(
     Ok((names, numbers))
 }
 
-/// The names of which some are in.
+/// The names that are parents of others.
 fn all_parents<'a, N: Ord, K>(
     alloc: Global,
     declared: &'a [Declaration<N, K>],
@@ -117,8 +120,8 @@ fn all_parents<'a, N: Ord, K>(
     Ok(above)
 }
 
-/// Adds what a declaration says by one step.
-fn add_steps<'a, N: Ord, K>(
+/// Adds the edges of a declaration to the graph, from each parent to each name.
+fn add_edges<'a, N: Ord, K>(
     graph: &mut Graph,
     numbers: &BTreeMap<&'a N, usize>,
     declaration: &'a Declaration<N, K>,
@@ -130,14 +133,14 @@ fn add_steps<'a, N: Ord, K>(
             let child = numbers.get(&child).copied();
             let parent = numbers.get(&parent).copied();
             if let (Some(child), Some(parent)) = (child, parent) {
-                graph.add(child, parent)?;
+                graph.add_successor(child, parent)?;
             }
         }
     }
     Ok(())
 }
 
-/// The fault at the declaration of this name, which has too many descendants.
+/// The fault at the declaration of `name`, which has too many descendants.
 fn too_many<N: Ord, K>(declared: &[Declaration<N, K>], name: Option<&N>) -> ReadError {
     let own = declared
         .iter()

@@ -1,4 +1,4 @@
-// Declarations of entity types.
+// Entity type declarations: reading them, and the meaning of their names.
 use crate::cursor::{Cursor, MAX_GRAMMAR_STEPS};
 use crate::faults::ReadError;
 use crate::notes::Met;
@@ -41,7 +41,7 @@ pub fn entity_declaration(
 }
 
 impl Listable for Placed<EntityType> {
-    /// Reads a name that is declared.
+    /// Reads a name that the declaration declares.
     fn read(cursor: &mut Cursor<'_>, namespace: &[&str]) -> Result<Self, ReadError> {
         let start = cursor.start();
         let name = own_type(cursor.alloc, namespace, free_word(cursor)?)?;
@@ -72,7 +72,7 @@ pub fn ids(cursor: &mut Cursor<'_>) -> Result<EnumChoices, ReadError> {
     Ok(EnumChoices::new(cursor.alloc, ids)?)
 }
 
-/// Reads attributes and tags, of which both may be missing.
+/// Reads attributes and tags, both of which may be missing.
 fn standard(cursor: &mut Cursor<'_>) -> Result<WrittenKind, ReadError> {
     let has_attributes = cursor.takes("=") || cursor.is_at("{");
     let attributes = if has_attributes {
@@ -88,7 +88,7 @@ fn standard(cursor: &mut Cursor<'_>) -> Result<WrittenKind, ReadError> {
     Ok(WrittenKind::Standard(attributes, tags))
 }
 
-/// The declaration, with what the names in it mean.
+/// The declaration, with the meanings of the names in it.
 pub fn meant_entity_types(
     written: WrittenTypes,
     names: &Names<'_>,
@@ -110,7 +110,7 @@ pub fn meant_entity_types(
     })
 }
 
-/// The entity type that a name means. It is no fault of a parent that it is not declared, so long as names may be unknown.
+/// The entity type that a name means. An undeclared parent is no fault if names may be unknown.
 pub fn meant_entity_type(
     written: &WrittenName,
     names: &Names<'_>,

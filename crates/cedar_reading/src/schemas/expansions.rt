@@ -1,5 +1,6 @@
-// What aliases stand for. Each is expanded once. Beside its type we keep how much of the grammar and how many tokens that takes,
-// so an alias that would be too deep or too large is found before it is expanded again.
+// Expansions of aliases. Each alias is expanded once. Beside its type the table keeps the number of
+// grammar steps and of tokens that the type takes, so an alias that would be too deep or too large
+// is found before it is expanded again.
 ghost use Rattle.std.specs.Prelude.{◌≡◌, ◌+◌, IfOk};
 
 use crate::faults::{Fault, ReadError};
@@ -12,30 +13,31 @@ use std::alloc::Global;
 use std::collections::BTreeMap;
 use std::mem;
 
-/// How many tokens of aliases may be read more than once.
+/// The largest number of tokens of aliases that may be read more than once.
 const MAX_REPEATED: usize = 1 << 20;
 
-/// What an alias stands for.
+/// The type that an alias stands for.
 #[derive(Drop)]
 struct Expansion {
     meant: CedarType,
-    /// How many steps of the grammar, and how many tokens, it takes to read.
+    /// The number of grammar steps and the number of tokens that reading the type takes.
     steps: usize,
     tokens: usize,
 }
 
-/// How many tokens are read up to a place, those of aliases included.
+/// The number of tokens read up to a place, those of aliases included.
 #[derive(Clone, Copy)]
 struct Count {
-    /// How many were read before the type began in which we count, and how many the text has before that.
+    /// The number of tokens read before the type in which we count began, and the number of tokens
+    /// of the text before that type.
     before: usize,
     in_text: usize,
-    /// How many of aliases were read since.
+    /// The number of tokens of aliases read since.
     repeated: usize,
 }
 
 impl Count {
-    /// The tokens that are read where the text has so many.
+    /// The number of tokens read at the place before which the text has `tokens` tokens.
     fn at(self, tokens: usize) -> usize {
         let own = tokens.saturating_sub(self.in_text);
         self.before
@@ -44,7 +46,7 @@ impl Count {
     }
 }
 
-/// What stands around an alias that is expanded, kept until that is done.
+/// The state around an alias that is expanded, kept until the expansion ends.
 #[derive(Drop)]
 pub struct Outside {
     count: Count,
@@ -52,24 +54,25 @@ pub struct Outside {
     notes: Notes,
 }
 
-/// What is known of the aliases of a text, and the faults that were noted.
+/// Knowledge of the aliases of a text, and the faults that were noted.
 #[derive(Drop)]
 pub struct Expansions {
     alloc: Global,
-    /// How many tokens may be read.
+    /// The largest number of tokens that may be read.
     most: usize,
-    /// What aliases stand for, by the byte at which the name of each is declared.
+    /// The expanded aliases, by the byte of the declared name of each.
     found: BTreeMap<usize, Expansion>,
-    /// How many steps of the grammar were left where an alias could not be expanded.
+    /// The number of grammar steps left at which an alias could not be expanded, by the byte of its
+    /// declared name.
     failed: BTreeMap<usize, usize>,
     count: Count,
-    /// How many steps of the grammar are left where the fewest are.
+    /// The smallest number of grammar steps left so far.
     least: usize,
     pub notes: Notes,
 }
 
 impl Expansions {
-    /// None so far, of a text of so many bytes, of which these faults were noted.
+    /// No expansions so far, of a text of `length` bytes, with these notes.
     pub fn new(alloc: Global, length: usize, notes: Notes) -> Expansions {
         Expansions {
             alloc,
@@ -86,7 +89,8 @@ impl Expansions {
         }
     }
 
-    /// One step deeper into the grammar, where so many are left; it fails at this byte where none is.
+    /// The steps left after one step deeper into the grammar; it fails at the byte `start` if none
+    /// is left.
     pub fn deeper(&mut self, left: usize, start: usize) -> Result<usize, ReadError>
         ensures { IfOk result (λ inner. inner + 1 ≡ left) }
     {
@@ -95,15 +99,16 @@ impl Expansions {
         Ok(inner)
     }
 
-    /// Whether an alias at this name is not expanded, because faults are noted where it is declared: where it is a record,
-    /// which may stand anywhere, and where too much was read.
+    /// Whether an alias is not expanded at this name, because faults of its type are noted at its
+    /// declaration: if it is a record, which may stand anywhere, or if too many tokens were read.
     pub fn is_passed(&self, alias: &Alias, name: &WrittenName) -> bool {
         let is_enough = alias.written.is_record() || self.count.at(name.tokens) > self.most;
         self.notes.are_taken() && is_enough
     }
 
-    /// The type of an alias that was expanded before, if it fits where it stands. It is counted then. Fails where the alias
-    /// failed before, or has a type in its place, where faults are noted.
+    /// The type of an alias that was expanded before, if it fits here; its tokens are counted then.
+    /// It fails if the alias failed before; if faults are noted, a type stands in its place
+    /// instead.
     pub fn known(
         &mut self,
         alias: &Alias,
@@ -128,7 +133,7 @@ impl Expansions {
         Ok(Some(meant))
     }
 
-    /// Whether an alias could not be expanded where so many steps were left, or more.
+    /// Whether the alias could not be expanded with at least `left` steps left.
     fn has_failed(&self, alias: &Alias, left: usize) -> bool {
         match self.failed.get(&alias.own_start) {
             Some(most) => left <= *most,
@@ -136,7 +141,8 @@ impl Expansions {
         }
     }
 
-    /// Begins to expand an alias at this name. Until the end it fails at the first fault.
+    /// Begins to expand an alias at this name. Until the end of the expansion it fails at the first
+    /// fault.
     pub fn begin(&mut self, alias: &Alias, name: &WrittenName) -> Outside {
         let (count, least) = (self.count, self.least);
         let none = Notes::new(self.alloc, false);
@@ -154,8 +160,9 @@ impl Expansions {
         }
     }
 
-    /// Ends to expand an alias at this name, where so many steps were left. Fails where it failed, or where too much was read;
-    /// where faults are noted, further aliases are passed in that case.
+    /// Ends the expansion of an alias at this name, with `left` steps left. It fails if the
+    /// expansion failed, or if too many tokens were read; if faults are noted, it passes further
+    /// aliases in that case.
     pub fn end(
         &mut self,
         outside: Outside,
@@ -192,7 +199,7 @@ impl Expansions {
         Ok(meant)
     }
 
-    /// Keeps that an alias failed, where so many steps were left, and answers as `fail` does.
+    /// Records that an alias failed with `left` steps left, and answers as `fail` does.
     fn keep_failed(
         &mut self,
         alias: &Alias,
@@ -203,7 +210,7 @@ impl Expansions {
         self.fail(error)
     }
 
-    /// Fails; or has a type in the place of an alias with a fault, where faults are noted.
+    /// Fails; or, if faults are noted, gives a type in the place of an alias with a fault.
     fn fail(&self, error: ReadError) -> Result<CedarType, ReadError> {
         match error {
             ReadError::At(_, _) if self.notes.are_taken() => Ok(unsure_type(self.alloc)?),

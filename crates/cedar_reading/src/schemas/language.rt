@@ -1,16 +1,16 @@
-// The types of the language, which need no declaration.
+// Types of the language, which need no declaration.
 use crate::names::is_extension;
 use cedar_types::base::{Attributes, CedarType, Name, OpenTag};
 use std::alloc::{AllocError, Global};
 use std::collections::BTreeMap;
 
-/// A type in the place of one that is not known: a record, which may stand anywhere.
+/// A type in the place of one that is not known: a record, because a record may stand anywhere.
 pub fn unsure_type(alloc: Global) -> Result<CedarType, AllocError> {
     let attributes = Attributes::with_attributes(alloc, BTreeMap::new(alloc))?;
     Ok(CedarType::record_with_attributes(attributes, OpenTag::ClosedAttributes))
 }
 
-/// The last part of a name that begins with `__cedar::`.
+/// The last part of a name that begins with `__cedar::`, if it does.
 pub fn name_of_language(alloc: Global, name: &Name) -> Result<Option<Name>, AllocError> {
     match name.path.as_slice() {
         [own] if own.as_str() == "__cedar" => {

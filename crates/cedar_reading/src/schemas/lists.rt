@@ -1,8 +1,8 @@
-// Parts of a schema of which there may be several.
+// Listings: parts of a schema of which there may be several.
 use crate::cursor::Cursor;
 use crate::faults::ReadError;
 
-/// How many parts may stand at a place, and what stands around them.
+/// The number of parts that may stand at a place, and the marks around them.
 #[derive(Clone, Copy, PartialEq, Eq, Debug)]
 pub enum Listing {
     One,
@@ -22,7 +22,8 @@ pub fn one_or_in_brackets(cursor: &mut Cursor<'_>) -> Listing {
 }
 
 impl Listing {
-    /// Whether another part follows after so many. Reads the comma before it, or the bracket behind the last.
+    /// Whether another part follows after `before` parts. It reads the comma before that part, or
+    /// the bracket behind the last.
     pub fn goes_on(self, cursor: &mut Cursor<'_>, before: usize) -> Result<bool, ReadError> {
         match self {
             Listing::One => Ok(before == 0),
@@ -39,13 +40,13 @@ impl Listing {
     }
 }
 
-/// A name of which several may be listed.
+/// A name of which a list may stand in a schema.
 pub trait Listable: Drop + Sized {
-    /// Reads one, in the namespace of this name.
+    /// Reads one name, in the namespace whose name has these parts.
     fn read(cursor: &mut Cursor<'_>, namespace: &[&str]) -> Result<Self, ReadError>;
 }
 
-/// Reads names, so many as may be listed here.
+/// Reads names, as many as `listing` allows.
 fn listed<N: Listable>(
     cursor: &mut Cursor<'_>,
     namespace: &[&str],
@@ -67,7 +68,7 @@ pub fn one_or_more<N: Listable>(cursor: &mut Cursor<'_>) -> Result<Vec<N>, ReadE
     listed(cursor, &[], listing)
 }
 
-/// Reads the names that are declared in the namespace of this name.
+/// Reads the names that are declared in `namespace`.
 pub fn own_names<N: Listable>(
     cursor: &mut Cursor<'_>,
     namespace: &[&str],

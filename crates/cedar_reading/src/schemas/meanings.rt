@@ -1,22 +1,23 @@
-// What the names of a schema's text mean. None has a place: places are those of a policy's text.
+// Meanings of the names of a schema's text. No meaning has a place, because places are those of a
+// policy's text.
 use crate::schemas::declarations::Declared;
 use crate::schemas::written::Alias;
 use cedar_types::base::{EntityType, EntityUID, Name};
 use std::alloc::{AllocError, Global};
 
-/// What names mean where they stand.
+/// The names that are in force at a place: the namespace and the declarations.
 #[derive(Clone, Copy)]
 pub struct Names<'a> {
     pub alloc: Global,
     /// The parts of the namespace's name; none outside of namespaces.
     pub namespace: &'a [&'a str],
-    /// What is declared.
+    /// The declarations of the text.
     pub declared: &'a Declared,
-    /// Whether an entity type that is named has to be declared, or be one of actions.
+    /// Whether every named entity type has to be declared, or be a type of actions.
     pub have_to_be_known: bool,
 }
 
-/// The entity type of this name that a declaration in this namespace declares.
+/// The entity type that a declaration of `basename` in this namespace declares.
 pub fn own_type(
     alloc: Global,
     namespace: &[&str],
@@ -25,15 +26,16 @@ pub fn own_type(
     Ok(EntityType::new(Name::new(alloc, basename, namespace)?, None))
 }
 
-/// The action of this id that a declaration in this namespace declares.
+/// The action that a declaration of `eid` in this namespace declares.
 pub fn own_action(alloc: Global, namespace: &[&str], eid: &str) -> Result<EntityUID, AllocError> {
     let action_type = own_type(alloc, namespace, "Action")?;
     EntityUID::from_components(alloc, action_type, eid, None)
 }
 
 impl<'a> Names<'a> {
-    /// The alias that a name means, if it means one: without a path one of the namespace, unless that declares an entity type
-    /// of the name, else the one of this very name.
+    /// The alias that a name means, if it means one. A name without a path means an alias of the
+    /// namespace, unless the namespace declares an entity type of that name; else it means the
+    /// alias of this very name.
     pub fn alias(&self, name: &Name) -> Result<Option<&'a Alias>, AllocError> {
         if self.declared.aliases.is_empty() {
             return Ok(None);
@@ -50,18 +52,19 @@ impl<'a> Names<'a> {
         Ok(self.declared.alias(name))
     }
 
-    /// Whether a name may be one of the namespace, and is another there: without a path, inside of a namespace.
+    /// Whether a name may mean one of the namespace: if it has no path and stands inside a
+    /// namespace.
     fn is_of_namespace(&self, name: &Name) -> bool {
         name.path.is_empty() && !self.namespace.is_empty()
     }
 
-    /// Whether a fault stands at this entity type, as it has to be known and is not.
+    /// Whether this entity type is a fault, because it has to be known and is not.
     pub fn is_unknown(&self, named: &EntityType) -> bool {
         self.have_to_be_known && !named.is_action() && !self.declared.may_have_type(named)
     }
 
-    /// The entity type that a name means: without a path one of the namespace, if that declares it, else the one of this very
-    /// name.
+    /// The entity type that a name means: a name without a path means one of the namespace, if that
+    /// declares it; else the one of this very name.
     pub fn entity_type(&self, name: &Name) -> Result<EntityType, AllocError> {
         if self.is_of_namespace(name) {
             let own = own_type(self.alloc, self.namespace, name.basename.as_str())?;
@@ -72,7 +75,8 @@ impl<'a> Names<'a> {
         Ok(EntityType::new(name.clone()?, None))
     }
 
-    /// The action that an id means: one of the namespace as for an entity type, where the name of the id's type has no path.
+    /// The action that an id means: if the name of the id's type has no path, one of the namespace
+    /// that declares it, as for an entity type.
     pub fn action(&self, type_name: &Name, eid: &str) -> Result<EntityUID, AllocError> {
         if self.is_of_namespace(type_name) {
             let own_type = own_type(self.alloc, self.namespace, type_name.basename.as_str())?;

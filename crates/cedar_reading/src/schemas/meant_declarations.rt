@@ -1,4 +1,4 @@
-// Declarations with what the names in them mean.
+// Declarations with the meanings of the names in them.
 use crate::cursor::MAX_GRAMMAR_STEPS;
 use crate::faults::ReadError;
 use crate::notes::Met;
@@ -14,25 +14,26 @@ use crate::schemas::meant_types::meant_type;
 use crate::schemas::written::{Alias, Item, Mention, Space, WrittenActions, WrittenTypes};
 use std::alloc::{AllocError, Global};
 
-/// Whether an entity type that is named has to be declared.
+/// Whether a named entity type has to be declared.
 #[derive(Clone, Copy, PartialEq, Eq, Debug)]
 pub enum Named {
-    /// It may be any, but in an alias.
+    /// A named type may be any, except in an alias.
     Any,
-    /// It has to be declared, or be one of actions. The context of an action has to be a record then.
+    /// A named type has to be declared, or be a type of actions. The context of an action has to be
+    /// a record then.
     Declared,
 }
 
-/// What a declaration means.
+/// The meaning of a declaration.
 #[derive(Drop)]
 enum Meant {
-    /// An alias, or a declaration with a fault.
+    /// No meaning: an alias, or a declaration with a fault.
     Nothing,
     Types(TypeDeclaration),
     Actions(ActionDeclaration),
 }
 
-/// What was found of declarations.
+/// The declarations found, by kind.
 #[derive(Drop)]
 struct Found {
     entity_types: Vec<TypeDeclaration>,
@@ -40,7 +41,7 @@ struct Found {
 }
 
 impl Found {
-    /// Adds what a declaration means.
+    /// Adds the meaning of a declaration.
     fn add(&mut self, meant: Meant) -> Result<(), AllocError> {
         match meant {
             Meant::Nothing => {}
@@ -50,7 +51,7 @@ impl Found {
         Ok(())
     }
 
-    /// Adds what the declarations of a namespace mean.
+    /// Adds the meanings of the declarations of a namespace.
     fn add_space(
         &mut self,
         space: Space<'_>,
@@ -73,7 +74,8 @@ impl Found {
     }
 }
 
-/// The declarations, with what the names in them mean. Where faults are noted, those without a fault.
+/// The declarations, with the meanings of the names in them. If faults are noted, it leaves out
+/// those with a fault.
 pub fn with_meanings(
     alloc: Global,
     written: Written<'_>,
@@ -99,7 +101,7 @@ pub fn with_meanings(
     })
 }
 
-/// What a declaration means. Where faults are noted, one with a fault means nothing.
+/// The meaning of a declaration. If faults are noted, a declaration with a fault means nothing.
 fn meant_or_noted(
     item: Item,
     names: &Names<'_>,
@@ -151,8 +153,8 @@ fn check_mentions(
     Ok(Meant::Nothing)
 }
 
-/// Fails, or notes faults, where names in the type of an alias have them. They have to be declared: nothing may use the alias, so
-/// that no type of the schema would show an unknown name.
+/// Fails, or notes faults, for the names in the type of an alias. They have to be declared, because
+/// nothing may use the alias, and then no type of the schema would show an unknown name.
 fn check_alias(
     alias: &Alias,
     names: &Names<'_>,

@@ -1,4 +1,4 @@
-// The types that written types mean. Each call goes one step deeper into the grammar, through aliases too.
+// Meanings of written types. Each call goes one step deeper into the grammar, through aliases too.
 use crate::faults::{Fault, ReadError};
 use crate::notes::Met;
 use crate::schemas::expansions::Expansions;
@@ -10,7 +10,7 @@ use std::alloc::{AllocError, Global};
 use std::collections::BTreeMap;
 use std::rc::RcStr;
 
-/// The type that is meant.
+/// The type that `written` means.
 #[cycle(meant_types)]
 pub fn meant_type(
     written: &WrittenType,
@@ -61,7 +61,7 @@ pub fn meant_attributes(
         let attr_type = meant_type(&written.attr_type, names, inner, expansions)?;
         let attribute = AttributeType::new(attr_type, written.is_required);
         let is_repeated = attrs.insert(written.key.clone()?, attribute)?.is_some();
-        // the fault was noted where the record is declared
+        // the fault was noted at the declaration of the record
         if is_repeated && !expansions.notes.are_taken() {
             return Err(ReadError::At(record.start, Fault::SameKey));
         }
@@ -87,7 +87,7 @@ pub fn meant_name(
     }
 }
 
-/// The type of an alias, which this name means.
+/// The type of an alias that `name` means.
 #[cycle(meant_types)]
 fn meant_alias(
     alias: &Alias,
@@ -121,7 +121,8 @@ fn words(alloc: Global, path: &[RcStr]) -> Result<Vec<&str>, AllocError> {
     Ok(words)
 }
 
-/// A type in the place of one that the language has not. The fault was noted where it stands, unless it stands in an alias.
+/// A type in the place of one that the language does not have. The fault was noted at that type,
+/// unless it stands in an alias.
 fn unknown_type(
     alloc: Global,
     start: usize,

@@ -1,4 +1,4 @@
-// Where reading goes on behind a declaration with a fault.
+// Recovery: how reading goes on behind a declaration with a fault.
 use crate::cursor::Cursor;
 use crate::faults::ReadError;
 use crate::notes::Met;
@@ -7,8 +7,9 @@ use crate::schemas::written::Item;
 use crate::tokens::TokenKind;
 use std::alloc::AllocError;
 
-/// Goes on behind the declaration that began at this byte, if it has a fault and faults are noted; else fails with the fault.
-/// The names in it, but for those in brackets, are unsure then; those that were read before the fault are answered.
+/// Goes on behind the declaration that began at the byte `start`, if it has a fault and faults are
+/// noted; else fails with the fault. The names in the declaration, but for those in brackets, are
+/// unsure then; it returns the names read before the fault.
 pub fn go_on_behind(
     cursor: &mut Cursor<'_>,
     start: usize,
@@ -24,8 +25,9 @@ pub fn go_on_behind(
     Ok(Some(Item::Faulty(mentions)))
 }
 
-/// Goes on in the braces of a namespace, if what stands before them has a fault and faults are noted; else fails with the
-/// fault. No name is sure then. Whether there are braces, as far as can be seen.
+/// Goes on in the braces of a namespace, if the text before them has a fault and faults are noted;
+/// else fails with the fault. No name is sure then. Returns whether there are braces, as far as can
+/// be seen.
 pub fn go_on_inside(
     cursor: &mut Cursor<'_>,
     error: ReadError,
@@ -52,8 +54,8 @@ fn note(cursor: &mut Cursor<'_>, error: ReadError) -> Result<(), ReadError> {
     }
 }
 
-/// Passes a declaration that began at this byte and was read up to a fault: behind the fault up to a `;`, or to where another
-/// declaration begins or the namespace ends.
+/// Passes a declaration that began at the byte `start` and was read up to a fault: behind the fault
+/// it goes up to a `;`, or until another declaration begins or the namespace ends.
 fn pass_declaration(
     cursor: &mut Cursor<'_>,
     start: usize,
@@ -73,7 +75,7 @@ fn pass_declaration(
             unsure.add_next(cursor)?;
         }
         if is_first && cursor.takes("}") {
-            // one that closes nothing: perhaps a namespace ended too early
+            // a brace that closes nothing: perhaps a namespace ended too early
             unsure.add_all();
             cursor.takes(";");
             break;
@@ -86,7 +88,8 @@ fn pass_declaration(
     Ok(())
 }
 
-/// Takes a token, before which so many brackets are open. How many are open behind it.
+/// Takes a token with `depth` open brackets before it, and returns the number of open brackets
+/// behind it.
 fn depth_behind(cursor: &mut Cursor<'_>, depth: usize) -> usize {
     match cursor.take().text {
         "(" | "[" | "{" => depth.saturating_add(1),
@@ -95,13 +98,13 @@ fn depth_behind(cursor: &mut Cursor<'_>, depth: usize) -> usize {
     }
 }
 
-/// Whether a declaration with so many open brackets seems to end before the next token.
+/// Whether a declaration with `depth` open brackets seems to end before the next token.
 fn ends_before(cursor: &Cursor<'_>, depth: usize) -> bool {
     (depth == 0 && cursor.is_at("}")) || begins_declaration(cursor, depth)
 }
 
-/// Whether a declaration seems to begin, where so many brackets are open: with its first word and a name behind it, at the
-/// beginning of a line where brackets are open, or with an annotation where none are.
+/// Whether a declaration seems to begin with `depth` brackets open: with its first word and a name
+/// behind it, at the beginning of a line if brackets are open, or with an annotation if none are.
 fn begins_declaration(cursor: &Cursor<'_>, depth: usize) -> bool {
     if depth == 0 && cursor.is_at("@") {
         return true;

@@ -1,4 +1,4 @@
-// Which name of a text a schema is refused for.
+// Refusals: the name for which a schema is refused.
 use crate::cursor::Cursor;
 use crate::faults::ReadError;
 use crate::names::placed_name;
@@ -12,19 +12,19 @@ use std::alloc::{AllocError, Global};
 use std::collections::BTreeSet;
 use std::fmt;
 
-/// The name that a schema is refused for.
+/// The name for which a schema is refused.
 #[derive(Debug, Drop)]
 pub struct RefusedName {
     /// The whole name, with its namespace.
     pub name: String,
-    /// The byte of the schema's text at which it stands.
+    /// The byte of the schema's text at which the name stands.
     pub start: usize,
 }
 
-/// The name in a text that this fault of its schema is about: the first that is declared for a
-/// second time, that is one of actions, whose type has no ids, that is not known, or that a context
-/// is of and that is no record. `None` where there is no such name, as for the other faults, which
-/// no text has.
+/// The name in a text that `fault` of its schema is about: the first name that is declared for a
+/// second time, that is one of actions, whose type has no ids, that is not known, or that names a
+/// context and is no record. `None` if there is no such name, as for the other faults, which no
+/// text has.
 pub fn refused_name(
     alloc: Global,
     text: &str,
@@ -59,7 +59,7 @@ fn name_of_fault(
     Ok(found)
 }
 
-/// A name that was found, as it is shown.
+/// The name that was found, as it is shown.
 fn show<N: fmt::Display>(
     alloc: Global,
     found: Option<&Placed<N>>,
@@ -70,7 +70,7 @@ fn show<N: fmt::Display>(
     }
 }
 
-/// A name as it is shown.
+/// The name, as it is shown.
 pub fn refused<N: fmt::Display>(alloc: Global, own: &Placed<N>) -> Result<RefusedName, AllocError> {
     Ok(RefusedName {
         name: own.name.to_string(alloc)?,
@@ -101,7 +101,7 @@ fn repetitions<N: Ord, K>(
     Ok(found)
 }
 
-/// The first declared type that has the name of a type of actions.
+/// The first declared type with the name of a type of actions.
 fn of_actions(
     types: &[Declaration<EntityType, ValidatorEntityTypeKind>],
 ) -> Option<&Placed<EntityType>> {
@@ -120,7 +120,7 @@ fn without_ids(
         .and_then(|d| d.names.first())
 }
 
-/// Adds for each of these names that the schema is refused for it.
+/// Adds a fault for each name for which the schema is refused.
 pub fn add_refusals(
     alloc: Global,
     read: &Declarations,
@@ -140,7 +140,8 @@ pub fn add_refusals(
     Ok(())
 }
 
-/// Adds the names of a declaration that are those of types of actions, and its first name if it has no ids.
+/// Adds a fault for each name of a declaration that names a type of actions, and for its first name
+/// if it has no ids.
 fn add_refusals_of_type(
     alloc: Global,
     declaration: &Declaration<EntityType, ValidatorEntityTypeKind>,
@@ -169,8 +170,8 @@ fn has_no_ids(kind: &ValidatorEntityTypeKind) -> bool {
     }
 }
 
-/// The first type that is named and neither declared nor one of actions, or of which a context is and
-/// that is no record, found by looking names up so that this fails at both.
+/// The first named type that is neither declared nor one of actions, or that is the type of a
+/// context and no record. The lookup of names fails at both.
 fn unfit(alloc: Global, text: &str) -> Result<Option<RefusedName>, ReadError> {
     let start = match declarations_of(alloc, text, Named::Declared) {
         Ok(_) => return Ok(None),

@@ -1,8 +1,9 @@
-// The names that the language keeps for itself.
+// Reserved words: names that the language keeps for itself.
 use crate::cursor::Cursor;
 use crate::faults::{Fault, ReadError};
 
-/// Reads a name of an entity type that is declared, or a part of a namespace's name.
+/// Reads a name of a declared entity type, or a part of a namespace's name. It fails with
+/// `Fault::Reserved` at a reserved word.
 pub fn free_word<'a>(cursor: &mut Cursor<'a>) -> Result<&'a str, ReadError> {
     if is_reserved(cursor.peek().text) {
         return Err(cursor.fault(Fault::Reserved));
@@ -10,7 +11,7 @@ pub fn free_word<'a>(cursor: &mut Cursor<'a>) -> Result<&'a str, ReadError> {
     cursor.word()
 }
 
-/// Reads a name of a type that is declared to be an alias.
+/// Reads the name of an alias that is declared. It fails with `Fault::Reserved` at a reserved word.
 pub fn free_alias<'a>(cursor: &mut Cursor<'a>) -> Result<&'a str, ReadError> {
     if is_reserved_alias(cursor.peek().text) {
         return Err(cursor.fault(Fault::Reserved));

@@ -1,4 +1,4 @@
-// Names of namespaces that hide names outside of namespaces.
+// Shadows: names of namespaces that hide names outside of namespaces.
 use crate::faults::ReadError;
 use crate::schemas::declarations::Declarations;
 use crate::schemas::declarations_of;
@@ -8,9 +8,10 @@ use cedar_types::base::{EntityUID, Name};
 use std::alloc::{AllocError, Global};
 use std::collections::BTreeSet;
 
-/// The first name in a text that a namespace declares and that hides one declared outside of namespaces: an entity type or
-/// an alias with the last part of another, or an action with the id of another. Cedar refuses a schema with such a name.
-/// `None` where there is none, and where the text cannot be read.
+/// The first name in a text that a namespace declares and that hides one declared outside of
+/// namespaces: an entity type or an alias with the last part of another, or an action with the id
+/// of another. Cedar refuses a schema with such a name. `None` if there is none, and if the text
+/// cannot be read.
 pub fn shadowing_name(alloc: Global, text: &str) -> Result<Option<RefusedName>, AllocError> {
     match declarations_of(alloc, text, Named::Any) {
         Ok(read) => first_hiding_name(alloc, &read),
@@ -19,7 +20,7 @@ pub fn shadowing_name(alloc: Global, text: &str) -> Result<Option<RefusedName>, 
     }
 }
 
-/// The first such name of what was read.
+/// The first hiding name of the declarations.
 pub fn first_hiding_name(
     alloc: Global,
     read: &Declarations,
@@ -31,7 +32,7 @@ pub fn first_hiding_name(
     }
 }
 
-/// All such names of what was read: those of types by place, and behind them those of actions.
+/// All hiding names of the declarations: those of types by place, and behind them those of actions.
 pub fn hiding_names(alloc: Global, read: &Declarations) -> Result<Vec<RefusedName>, AllocError> {
     let mut names = hiding_types(alloc, read)?;
     for name in hiding_actions(alloc, read)? {
@@ -61,7 +62,7 @@ fn hiding_types(alloc: Global, read: &Declarations) -> Result<Vec<RefusedName>, 
     Ok(found)
 }
 
-/// The entity types and aliases of namespaces, and where they stand.
+/// The entity types and aliases of namespaces, and the byte of each.
 fn names_inside(alloc: Global, read: &Declarations) -> Result<Vec<(usize, &Name)>, AllocError> {
     let mut inside = Vec::new(alloc);
     for own in read.entity_types.iter().flat_map(|d| d.names.iter()) {

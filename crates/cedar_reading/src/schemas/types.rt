@@ -1,5 +1,5 @@
-// Types as they are written, and the attributes of records and entities. Each call goes one step deeper into the grammar, up to
-// `MAX_GRAMMAR_STEPS`.
+// Types as the text writes them, and the attributes of records and entities. Each call goes one
+// step deeper into the grammar, up to `MAX_GRAMMAR_STEPS`.
 ghost use Rattle.std.specs.Prelude.{◌≡◌, ◌+◌, IfOk};
 
 use crate::annotations::pass_annotations;
@@ -81,7 +81,7 @@ pub fn written_attributes(
     })
 }
 
-/// What may stand behind an attribute's type, if what is read there is something else.
+/// The expectation behind an attribute's type, for the fault if another token stands there.
 fn behind_attribute(cursor: &Cursor<'_>) -> Expected {
     if cursor.is_at("?") {
         Expected::OptionalMark
@@ -103,7 +103,7 @@ fn type_of_name(cursor: &mut Cursor<'_>, left: usize) -> Result<WrittenType, Rea
     }
 }
 
-/// Reads a name.
+/// Reads a name, and counts the tokens up to it.
 pub fn written_name(cursor: &mut Cursor<'_>) -> Result<WrittenName, ReadError> {
     let start = cursor.start();
     let name = placed_name(cursor)?.name;
@@ -115,7 +115,7 @@ pub fn written_name(cursor: &mut Cursor<'_>) -> Result<WrittenName, ReadError> {
     })
 }
 
-/// The primitive or extension type of this name, whatever is declared.
+/// The primitive or extension type of this name, also if a declaration has that name.
 fn type_of_language(
     cursor: &mut Cursor<'_>,
     name: Name,
@@ -130,7 +130,8 @@ fn type_of_language(
     }
 }
 
-/// One step deeper into the grammar, where so many are left; it fails at this byte where none is.
+/// The steps left after one step deeper into the grammar; it fails at the byte `start` if none is
+/// left.
 pub fn deeper(left: usize, start: usize) -> Result<usize, ReadError>
     ensures { IfOk result (λ inner. inner + 1 ≡ left) }
 {

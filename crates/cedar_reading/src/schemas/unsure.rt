@@ -1,4 +1,4 @@
-// Names that declarations with a fault may declare.
+// Unsure names, which declarations with a fault may declare.
 use crate::cursor::Cursor;
 use crate::faults::ReadError;
 use crate::texts::text;
@@ -7,17 +7,18 @@ use std::alloc::{AllocError, Global};
 use std::collections::BTreeSet;
 use std::rc::RcStr;
 
-/// Names of which it is not known whether they are declared, as a declaration could not be read.
+/// Names that may be declared or not, because a declaration could not be read.
 #[derive(Drop)]
 pub struct UnsureNames {
-    /// Whether all are, as it is not known where a namespace begins or ends.
+    /// Whether all names are unsure, because the reader does not know where a namespace begins or
+    /// ends.
     are_all: bool,
     /// The last parts of names, and ids.
     names: BTreeSet<RcStr>,
 }
 
 impl UnsureNames {
-    /// None so far.
+    /// No unsure names so far.
     pub fn new(alloc: Global) -> UnsureNames {
         UnsureNames {
             are_all: false,
@@ -25,12 +26,12 @@ impl UnsureNames {
         }
     }
 
-    /// From here on no name is sure.
+    /// Makes every name unsure from here on.
     pub fn add_all(&mut self) {
         self.are_all = true;
     }
 
-    /// Adds the word or the text in quotes that comes next, which stays.
+    /// Adds the next token if it is a word or a text in quotes; the cursor stays.
     pub fn add_next(&mut self, cursor: &Cursor<'_>) -> Result<(), AllocError> {
         let token = cursor.peek();
         match token.kind {

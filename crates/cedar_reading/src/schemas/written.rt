@@ -1,30 +1,30 @@
-// Declarations as a schema's text writes them. What a name in them means is not looked up so far: that depends on names that
-// are declared behind it.
+// Written declarations, as a schema's text has them. The meanings of names are not looked up yet,
+// because they depend on names that are declared behind them.
 use cedar_types::base::{CedarType, EntityType, EntityUID, EnumChoices, Name};
 use std::alloc::AllocError;
 use std::rc::RcStr;
 
-/// What was read, and the byte at which it stands.
+/// A name, and the byte at which it stands.
 #[derive(Drop)]
 pub struct Placed<N> {
     pub name: N,
     pub start: usize,
 }
 
-/// A name, and where it stands.
+/// A name, and its place in the text.
 #[derive(Drop)]
 pub struct WrittenName {
     pub name: Name,
-    /// The byte at which it begins.
+    /// Byte at which the name begins.
     pub start: usize,
-    /// The byte at which the next token begins.
+    /// Byte at which the next token begins.
     pub behind: usize,
-    /// How many tokens the text has up to its end.
+    /// Number of tokens of the text up to the end of the name.
     pub tokens: usize,
 }
 
 impl WrittenName {
-    /// A copy.
+    /// A copy of the name.
     pub fn copy(&self) -> Result<WrittenName, AllocError> {
         Ok(WrittenName {
             name: self.name.clone()?,
@@ -43,16 +43,17 @@ pub struct WrittenAction {
     pub start: usize,
 }
 
-/// A type.
+/// A type, as the text writes it.
 #[cycle(written_types)]
 pub enum WrittenType {
     /// A type that no declaration changes, and the byte at which it stands.
     Known(CedarType, usize),
-    /// A type that the language would have to have and has not, and the byte at which it stands. A fault was noted there.
+    /// A type in the namespace of the language that the language does not have, and the byte at
+    /// which it stands. A fault was noted there.
     Unknown(usize),
     /// An alias, an entity type or a type of the language.
     Named(WrittenName),
-    /// The sets of a type, and the byte at which this begins.
+    /// The sets of a type, and the byte at which the set type begins.
     Set(Box<WrittenType>, usize),
     Record(WrittenRecord),
 }
@@ -62,11 +63,11 @@ pub enum WrittenType {
 #[derive(Drop)]
 pub struct WrittenRecord {
     pub attributes: Vec<WrittenAttribute>,
-    /// The byte at which its brace stands.
+    /// Byte at which the brace of the record stands.
     pub start: usize,
 }
 
-/// An attribute.
+/// An attribute, as the text writes it.
 #[cycle(written_types)]
 #[derive(Drop)]
 pub struct WrittenAttribute {
@@ -75,7 +76,7 @@ pub struct WrittenAttribute {
     pub attr_type: WrittenType,
 }
 
-// By hand, so that a proof has one call where a type is dropped.
+// `drop` is written by hand, so that a proof has one call at each drop of a type.
 impl Drop for WrittenType {
     #[cycle(dropped_written_types)]
     fn drop(self) {
@@ -90,7 +91,7 @@ impl Drop for WrittenType {
 }
 
 impl WrittenType {
-    /// The byte at which it begins.
+    /// Byte at which the type begins.
     pub fn start(&self) -> usize {
         match self {
             WrittenType::Known(_, start) => *start,
@@ -101,7 +102,7 @@ impl WrittenType {
         }
     }
 
-    /// Whether it is a record that is written out.
+    /// Whether the type is a record that is written out.
     pub fn is_record(&self) -> bool {
         matches!(self, WrittenType::Record(_))
     }
@@ -111,10 +112,10 @@ impl WrittenType {
 #[derive(Drop)]
 pub struct Alias {
     pub name: Name,
-    /// The byte at which the name stands.
+    /// Byte at which the name stands.
     pub own_start: usize,
     pub written: WrittenType,
-    /// How many tokens the text has before the type, and up to its end.
+    /// Number of tokens of the text before the type, and up to its end.
     pub tokens_before: usize,
     pub tokens: usize,
 }
@@ -123,12 +124,12 @@ pub struct Alias {
 #[derive(Drop)]
 pub struct WrittenTypes {
     pub names: Vec<Placed<EntityType>>,
-    /// What each of them is in.
+    /// The direct parents of each of the types.
     pub parents: Vec<WrittenName>,
     pub kind: WrittenKind,
 }
 
-/// What entities of a type have.
+/// The ids of an enumerated entity type, or the attributes and tags of another.
 #[derive(Drop)]
 pub enum WrittenKind {
     Enum(EnumChoices),
@@ -140,13 +141,13 @@ pub enum WrittenKind {
 #[derive(Drop)]
 pub struct WrittenActions {
     pub names: Vec<Placed<EntityUID>>,
-    /// What each of them is in.
+    /// The direct parents of each of the actions.
     pub parents: Vec<WrittenAction>,
-    /// What they apply to, part by part in the order of the text.
+    /// The parts of `appliesTo`, in the order of the text.
     pub applies_to: Vec<WrittenPart>,
 }
 
-/// A part of what actions apply to.
+/// A part of an `appliesTo`.
 #[derive(Drop)]
 pub enum WrittenPart {
     Principals(Vec<WrittenName>),
@@ -154,32 +155,32 @@ pub enum WrittenPart {
     Context(WrittenType),
 }
 
-/// As what a name is read.
+/// The role in which a name is read.
 #[derive(Clone, Copy, PartialEq, Eq, Debug)]
 pub enum Role {
     Type,
     EntityType,
-    /// The type of a context, beside a type.
+    /// The type of a context; the name is also read as a type.
     Context,
 }
 
-/// A name that was read.
+/// A name that was read, and its role.
 #[derive(Drop)]
 pub struct Mention {
     pub name: WrittenName,
     pub role: Role,
 }
 
-/// A declaration.
+/// A declaration of a schema.
 #[derive(Drop)]
 pub enum Item {
-    /// The alias of this name, which stands with the names that are declared.
+    /// The alias of this name; it stands with the declared names.
     Alias(Name),
     /// An alias whose name is declared before.
     RepeatedAlias(Alias),
     Types(WrittenTypes),
     Actions(WrittenActions),
-    /// The names that were read of a declaration before a fault.
+    /// The names that were read of a declaration before its fault.
     Faulty(Vec<Mention>),
 }
 

@@ -1,10 +1,11 @@
-// Tokens of ASCII, found byte by byte. Most texts have few others, and no character has to be decoded for them.
+// ASCII tokens, found byte by byte. Most texts have few others, so no character has to be decoded
+// for them.
 use crate::tokens::{Token, TokenKind};
 use cedar_types::base::Loc;
 
-/// The first token of the text from this byte on, if blanks of ASCII alone stand before it, and it is a word of ASCII, a
-/// number, a text in quotes without a backslash, or a mark but `/`. `None` says nothing: the token has to be read by its
-/// characters.
+/// The first token of the text from the byte `from` on, if only ASCII blanks stand before it and it
+/// is an ASCII word, a number, a text in quotes without a backslash, or a mark but `/`. `None` says
+/// nothing: you must read the token by its characters then.
 pub fn plain_token(text: &str, from: usize) -> Option<Token<'_>> {
     let bytes = text.as_bytes();
     let start = after_blanks(bytes, from);
@@ -23,7 +24,7 @@ pub fn plain_token(text: &str, from: usize) -> Option<Token<'_>> {
     })
 }
 
-/// Where the blanks end that stand from this byte on.
+/// The end of the blanks from the byte `from` on.
 fn after_blanks(bytes: &[u8], from: usize) -> usize {
     let mut at = from;
     for _ in 0..bytes.len() {
@@ -35,7 +36,8 @@ fn after_blanks(bytes: &[u8], from: usize) -> usize {
     at
 }
 
-/// Where a word ends, of which this byte is the second. `None` where a character in it or behind it is none of ASCII.
+/// The end of a word whose second byte stands at `second`. `None` if a character in it or behind it
+/// is not ASCII.
 fn word_end(bytes: &[u8], second: usize) -> Option<usize> {
     let mut at = second;
     for _ in 0..bytes.len() {
@@ -48,7 +50,7 @@ fn word_end(bytes: &[u8], second: usize) -> Option<usize> {
     Some(at)
 }
 
-/// Where a number ends, of which this byte is the second.
+/// The end of a number whose second byte stands at `second`.
 fn digits_end(bytes: &[u8], second: usize) -> usize {
     let mut at = second;
     for _ in 0..bytes.len() {
@@ -60,7 +62,8 @@ fn digits_end(bytes: &[u8], second: usize) -> usize {
     at
 }
 
-/// Where a text in quotes ends, of which this byte is the second. `None` where it has a backslash or no end.
+/// The end of a text in quotes whose second byte stands at `second`. `None` if it has a backslash
+/// or no end.
 fn quoted_end(bytes: &[u8], second: usize) -> Option<usize> {
     let mut at = second;
     for _ in 0..bytes.len() {
@@ -73,7 +76,8 @@ fn quoted_end(bytes: &[u8], second: usize) -> Option<usize> {
     None
 }
 
-/// Where a mark ends that begins with this byte, before the second. `None` where none does.
+/// The end of a mark that begins with `first`, before the byte at `second`. `None` if no mark
+/// begins so.
 fn mark_end(bytes: &[u8], first: u8, second: usize) -> Option<usize> {
     let next = bytes.get(second).copied().unwrap_or(0);
     let is_long = match first {
