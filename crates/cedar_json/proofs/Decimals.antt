@@ -1,4 +1,4 @@
--- The digits of a number that was read.
+-- Digits of a number that was read.
 use Rattle.std.proofs.Common.{◌≡◌, ◌≢◌, ◌∙◌, ℕ, ◌+◌, ◌-◌, ◌<◌, ◌≤◌, Bool, true, false, cond, List, ◌∷◌, length, drop, refl, sym, ap, subst, arith, IsTrue}
 use Rattle.std.specs.Prelude.{slice_range, slice_index, ◌==◌}
 use Rattle.std.specs.Int.{IsInRange}
@@ -26,7 +26,7 @@ no_zero bytes low high w h z long e =
 minus_first : (xs : List ℕ) → (1 < length xs → slice_index xs 0 ≢ 48) → IsDecimal (45 ∷ xs)
 minus_first xs z = (λ e. absurd (omega arith), z)
 
--- A number begins with a minus or a digit, and a zero is no first digit of several.
+-- A number begins with a minus or a digit, and a zero is not the first of several digits.
 pub is_decimal : (bytes : List ℕ) (is_signed : Bool) (low begin high : ℕ) → high ≤ length bytes → begin < high
     → (IsTrue is_signed → HasByte bytes low 45 × (begin ≡ low + 1)) → (is_signed ≡ false → begin ≡ low)
     → ((i : ℕ) → begin ≤ i → i < high → IsInRange 48 57 (slice_index bytes i)) → (begin + 1 < high → slice_index bytes begin ≢ 48)

@@ -1,4 +1,4 @@
--- Values that fit, in wider places and in longer lists.
+-- Values that fit also fit in wider places and in longer lists.
 use Rattle.std.proofs.Common.{ℕ, ◌≤◌, List, [], ◌∷◌, ◌++◌, arith}
 use Rattle.cedar_json.specs.declared.values.Key.{Key}
 use Rattle.cedar_json.specs.declared.values.Value.{Value}
@@ -22,13 +22,13 @@ members_more depth low high high' [] k v above fit begins ordered ends last = (b
 members_more depth low high high' (e ∷ es) k v above fit begins ordered ends last =
     (fit.0, fit.1, omega (arith, fit.2), wider depth low low high high' (tree_of e.1) (omega arith) above fit.3, members_more depth low high high' es k v above fit.4 begins ordered ends last)
 
--- one more item was read behind the others
+-- items fit if one more item was read behind the others
 pub items_on : (depth low before behind high : ℕ) (vs : List Value) (v : Value) → low ≤ before → before ≤ behind → behind ≤ high
     → ItemsFit depth low before (items_view vs) → FitsIn depth before behind (tree_of v) → ItemsFit depth low high (items_view (vs ++ v ∷ []))
 items_on depth low before behind high vs v below read above fit last =
     items_more depth low low before high vs v (omega arith) (omega (arith, read, above)) fit (wider depth before low behind high (tree_of v) below above last)
 
--- one more entry was read behind the others: its key, and then its value
+-- members fit if one more entry was read behind the others: its key, and then its value
 pub members_on : (depth low before keyed behind high : ℕ) (es : List (Key × Value)) (k : Key) (v : Value)
     → low ≤ before → before ≤ keyed → keyed ≤ behind → behind ≤ high → MembersFit depth low before (members_view es)
     → (before ≤ k.place.start) × (k.place.start ≤ k.place.end) × (k.place.end ≤ keyed) → FitsIn depth keyed behind (tree_of v)

@@ -1,4 +1,4 @@
--- Keys that differ, and one more.
+-- Keys of an object that differ, and one more key.
 use Rattle.std.proofs.Common.{Global, ◌≡◌, ◌≢◌, ◌∙◌, Bool, true, false, ◌||◌, List, [], ◌∷◌, ◌++◌, map, refl, sym, ap, true≢false}
 use Rattle.std.specs.BTreeSet.{BTreeSet, insert_key}
 use Rattle.std.specs.BTreeMap.{is_at}
@@ -24,7 +24,7 @@ same_texts : (a b : RcStr Global) → key_cmp a b ≡ Equal → text_of a ≡ te
 same_texts a b e =
     (bytes_eq-Decides (text_of a) (text_of b)).0 (texts_ties (text_of a) (text_of b) ∙ ap is_eq e)
 
--- the set finds a key where it is among those that the set has
+-- the set finds a key iff the key is among the keys of the set
 pub found : (a : RcStr Global) (ks : List (RcStr Global)) → list_any (is_at (key_cmp a)) ks ≡ list_any (text_eq (text_of a)) (map text_of ks)
 found a [] = refl
 found a (k ∷ ks) = λ i. (sym (texts_ties (text_of a) (text_of k))) i || found a ks i

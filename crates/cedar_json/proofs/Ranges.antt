@@ -1,4 +1,4 @@
--- Parts of a text between two places.
+-- Ranges: the parts of a text between two places.
 use Rattle.std.proofs.Common.{◌≡◌, ◌∙◌, ℕ, ◌+◌, ◌-◌, ◌<◌, ◌≤◌, List, [], ◌∷◌, ◌++◌, length, take, drop, sym, ap, Option, Some, None, IfSome, IfNone, ⊎_elim, arith, get_or-take, get_or-drop, drop-drop, take-add, length-drop, length-take-le}
 use Rattle.std.specs.Prelude.{slice_range, slice_index, slice_get}
 use Rattle.std.proofs.lemmas.List.{drop_more}
@@ -10,7 +10,7 @@ index_in xs a b i h = get_or-take (b - a) (drop a xs) i 0 (omega arith) ∙ get_
 pub length_range : (xs : List ℕ) (a b : ℕ) → b ≤ length xs → length (slice_range xs a b) ≡ b - a
 length_range xs a b h = length-take-le (b - a) (drop a xs) (omega (arith, length-drop a xs))
 
--- a part is what stands up to a place between, and the rest
+-- a part is the bytes up to a place between, and the rest
 pub joined : (xs : List ℕ) (a m b : ℕ) → a ≤ m → m ≤ b → slice_range xs a m ++ slice_range xs m b ≡ slice_range xs a b
 joined xs a m b h k =
     let split : take ((m - a) + (b - m)) (drop a xs) ≡ take (m - a) (drop a xs) ++ take (b - m) (drop (m - a) (drop a xs)) = take-add (m - a) (b - m) (drop a xs) in

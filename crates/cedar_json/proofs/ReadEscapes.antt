@@ -5,12 +5,12 @@ use Rattle.std.specs.Char.{IsScalar, digit_value}
 use Rattle.cedar_json.specs.Texts.{HasByte, HasDigit, IsLetter, IsUnit, IsUnitAt, IsHigh, IsLow, paired, IsEscape, of_letter, of_unit, of_pair, EscapeStands}
 use Rattle.cedar_json.proofs.Ranges.{joined, first, empty}
 
--- a byte and what follows it
+-- a part begins with its first byte, and the rest follows
 first_to : (xs : List ℕ) (a b : ℕ) (n high : ℕ) → n ≡ a + 1 → a < high → HasByte xs a b → slice_range xs a high ≡ b ∷ slice_range xs n high
 first_to xs a b n high e h here =
     first xs a high here.0 h ∙ ap (λ x. x ∷ slice_range xs (a + 1) high) here.1 ∙ ap (λ m. b ∷ slice_range xs m high) (sym e)
 
--- two bytes and what follows them
+-- a part begins with its first two bytes, and the rest follows
 two_to : (xs : List ℕ) (a b c : ℕ) (high : ℕ) → a + 2 ≤ high → HasByte xs a b → HasByte xs (a + 1) c → slice_range xs a high ≡ b ∷ c ∷ slice_range xs (a + 2) high
 two_to xs a b c high h here there =
     first_to xs a b (a + 1) high refl (omega arith) here ∙ ap (λ ys. b ∷ ys) (first_to xs (a + 1) c (a + 2) high (omega arith) (omega arith) there)
@@ -56,7 +56,7 @@ unit_is bytes at a b c d n ha hb hc hd e =
     within_by : (n at : ℕ) → at + 3 < n → at + 4 ≤ n
     within_by n at h = omega arith
 
--- the digits end at this place
+-- four digits end at this place
 unit_to : (bytes : List ℕ) (at stop n : ℕ) → stop ≡ at + 4 → IsUnitAt bytes at n → IsUnit (slice_range bytes at stop) n
 unit_to bytes at stop n e u = subst (λ m. IsUnit (slice_range bytes at m) n) (sym e) u.3
 

@@ -1,4 +1,4 @@
--- Values that stand one behind another.
+-- Values that follow each other in a text.
 use Rattle.std.proofs.Common.{ℕ, ◌+◌, List, [], ◌∷◌, ◌++◌, sym, subst, append_assoc, arith, ⊎_elim}
 use Rattle.std.proofs.lemmas.Bool.{cases_lt}
 use Rattle.cedar_json.specs.declared.values.Key.{Key}
@@ -8,12 +8,12 @@ use Rattle.cedar_json.specs.Tree.{Tree, tree}
 use Rattle.cedar_json.specs.View.{tree_of, items_view, members_view}
 use Rattle.cedar_types.specs.Names.{text_of}
 
--- blanks and then blanks
+-- blanks behind blanks are blanks
 pub blanks_on : (bytes : List ℕ) (low mid high : ℕ) → Blanks bytes low mid → Blanks bytes mid high → Blanks bytes low high
 blanks_on bytes low mid high a b =
     (omega (arith, a.0, b.0), λ i l h. ⊎_elim (λ below. a.1 i l below) (λ above. b.1 i above h) (cases_lt i mid))
 
--- more blanks before a value and behind it
+-- a value stands also with more blanks before it and behind it
 pub widened : (bytes : List ℕ) (low' low high high' : ℕ) (t : Tree) → Blanks bytes low' low → Stands bytes low high t → Blanks bytes high high' → Stands bytes low' high' t
 widened bytes low' low high high' (tree start stop form) before stands behind =
     (blanks_on bytes low' low start before stands.0, stands.1, blanks_on bytes stop high high' stands.2 behind)
@@ -23,7 +23,7 @@ no_blanks bytes at = (omega arith, λ i l h. absurd (omega arith))
 
 -- ---- items
 
--- whatever item comes next, and whatever follows it, the array is complete
+-- the array is complete with any next item and any items that follow it
 abbrev pub ItemsComplete : List ℕ → ℕ → ℕ → List Value → Type 0
 ItemsComplete bytes low at vs = (high stop : ℕ) (v : Value) (ws : List Value) → Stands bytes at high (tree_of v) → ItemsFollow bytes high stop (items_view ws)
     → ItemsStand bytes low stop (items_view (vs ++ v ∷ ws))

@@ -1,16 +1,16 @@
--- What bytes between quotes say, part by part.
+-- Meanings of the bytes between quotes, part by part.
 use Rattle.std.proofs.Common.{◌≡◌, ◌∙◌, ℕ, ◌+◌, ◌-◌, ◌<◌, ◌≤◌, List, [], ◌∷◌, ◌++◌, length, sym, ap, subst, append_assoc, append-nil, zero, suc, arith}
 use Rattle.std.specs.Prelude.{slice_range, slice_index}
 use Rattle.cedar_json.specs.Texts.{IsPlain, ArePlain, Unescapes, nothing, plain, escape, AddsEscape}
 use Rattle.cedar_json.proofs.Ranges.{joined, first, empty}
 use Rattle.std.specs.Char.{encode_utf8}
 
--- plain bytes before others
+-- plain bytes before other bytes say themselves
 pub plain_first : (run bytes said : List ℕ) → ArePlain run → Unescapes bytes said → Unescapes (run ++ bytes) (run ++ said)
 plain_first [] bytes said h u = u
 plain_first (b ∷ run) bytes said h u = plain b (run ++ bytes) (run ++ said) h.0 (plain_first run bytes said h.1 u)
 
--- from each place a text can be completed by what says the rest
+-- the bytes done so far, with any rest, say their text and the text of the rest
 abbrev pub Completes : List ℕ → ℕ → ℕ → List ℕ → Type 0
 Completes bytes low at done = (stop : ℕ) (said : List ℕ) → at ≤ stop → Unescapes (slice_range bytes at stop) said → Unescapes (slice_range bytes low stop) (done ++ said)
 
@@ -36,13 +36,13 @@ with_escape bytes low at next done more l h c a stop said k u =
     let whole : Unescapes (slice_range bytes low stop) (done ++ (encode_utf8 c₁ ++ said)) = c stop (encode_utf8 c₁ ++ said) (omega arith) from in
     subst (λ xs. Unescapes (slice_range bytes low stop) xs) (sym (append_assoc done (encode_utf8 c₁) said) ∙ ap (λ xs. xs ++ said) (sym a.2)) whole
 
--- nothing is left
+-- the bytes say the text that is done, because no rest is left
 pub ended : (bytes : List ℕ) (low at : ℕ) (done : List ℕ) → Completes bytes low at done → Unescapes (slice_range bytes low at) done
 ended bytes low at done c =
     let none : Unescapes (slice_range bytes at at) [] = subst (λ bs. Unescapes bs []) (sym (empty bytes at)) nothing in
     subst (λ xs. Unescapes (slice_range bytes low at) xs) (append-nil done) (c at [] (omega arith) none)
 
--- bytes that are plain one by one
+-- a part is plain if each of its bytes is
 pub all_plain : (n : ℕ) (bytes : List ℕ) (at next : ℕ) → at + n ≡ next → next ≤ length bytes
     → ((i : ℕ) → at ≤ i → i < next → IsPlain (slice_index bytes i)) → ArePlain (slice_range bytes at next)
 all_plain zero bytes at next e h p =

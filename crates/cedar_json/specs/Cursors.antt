@@ -1,4 +1,4 @@
--- What reading a part of a text changes, and where faults stand.
+-- Cursors: the effect of reading a part of a text, and the places of faults.
 use Rattle.std.specs.Prelude.{◌≡◌, ℕ, ◌≤◌, ⊤}
 use Rattle.cedar_json.specs.declared.cursor.Cursor.{Cursor}
 use Rattle.cedar_json.specs.declared.faults.ReadError.{ReadError}

@@ -1,10 +1,10 @@
--- Where the parts of a value stand, and how deep it is.
+-- Fits: the places of the parts of a value, and its depth.
 use Rattle.std.specs.Prelude.{ℕ, ◌-◌, ◌<◌, ◌≤◌, ⊤}
 use Rattle.cedar_json.specs.Tree.{Tree, tree, Form, object, array, text, integer, boolean, null, Items, no_items, item, Members, no_members, member}
 
 abbrev mutual
-  -- The value stands between these two bytes, each part inside what it is a part of. At most so many objects and arrays stand
-  -- inside each other.
+  -- A value stands between these two bytes, and each part stands inside its whole. At most `depth`
+  -- objects and arrays stand inside each other.
   pub FitsIn : ℕ → ℕ → ℕ → Tree → Type 0
   FitsIn depth low high (tree start stop form) = (low ≤ start) × (start ≤ stop) × (stop ≤ high) × FormFits depth start stop form
 

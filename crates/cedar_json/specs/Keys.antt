@@ -1,4 +1,4 @@
--- The keys that an object has so far.
+-- Keys that an object has so far.
 use Rattle.std.specs.Prelude.{◌≡◌, Bool, true, map}
 use Rattle.std.specs.BTreeSet.{BTreeSet}
 use Rattle.std.specs.List.{list_any}

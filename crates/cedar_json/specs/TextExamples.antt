@@ -1,4 +1,4 @@
--- What small texts say, and what they do not.
+-- Examples of small texts: the trees that they say, and those that they do not.
 use Rattle.std.specs.Prelude.{pos, neg_ℤ, true, false, [], ◌∷◌, codes}
 use Rattle.cedar_json.specs.Numbers.{IsDecimal}
 use Rattle.cedar_json.specs.Says.{Says, KeysDiffer}
@@ -6,11 +6,11 @@ use Rattle.cedar_json.specs.Texts.{Quotes}
 use Rattle.cedar_json.specs.Tree.{Tree, tree, object, array, text, integer, boolean, null, no_items, item, no_members, member}
 
 pub record TextExamples : Type 0 where
-  -- blanks beside a value
+  -- a value with blanks beside it
   pub word : Says (codes " true ") (tree 1 5 (boolean true))
   -- `null` is a value of its own
   pub no_value : Says (codes "null") (tree 0 4 null)
-  -- a word is no other word
+  -- a word does not say another word
   pub another_word : Says (codes "true") (tree 0 4 (boolean false)) → ⊥
   -- a zero may have a minus
   pub zero : Says (codes "-0") (tree 0 2 (integer (pos 0)))
@@ -26,7 +26,7 @@ pub record TextExamples : Type 0 where
   pub no_negative_zero : IsDecimal (codes "-01") → ⊥
   -- a comma stands between two items
   pub no_comma : Says (codes "[1 2]") (tree 0 5 (array (item (tree 1 2 (integer (pos 1))) (item (tree 3 4 (integer (pos 2))) no_items)))) → ⊥
-  -- a key does not stand twice, whatever its values are
+  -- a key does not stand twice, with any values
   pub same_key : (x y : Tree) → KeysDiffer (member (codes "a") 1 4 x (member (codes "a") 8 11 y no_members)) → ⊥
   -- escapes: a line feed, a letter by its code, and a character by two surrogates
   pub line_feed : Quotes (codes "\"\\n\"") 0 4 (10 ∷ [])

@@ -1,13 +1,14 @@
--- What bytes between quotes say.
+-- Quoted texts: the text that the bytes between quotes say.
 use Rattle.std.specs.Prelude.{◌≡◌, ℕ, ◌+◌, ◌-◌, ◌*◌, ◌<◌, ◌≤◌, ◌≢◌, ⊤, List, [], ◌∷◌, ◌++◌, length, slice_index, slice_range}
 use Rattle.std.specs.Char.{IsScalar, encode_utf8, digit_value}
 use Rattle.std.specs.Str.Parse.{AllDigits, digits_value}
 
--- This byte stands at this place.
+-- The byte b stands at this place.
 abbrev pub HasByte : List ℕ → ℕ → ℕ → Type 0
 HasByte bytes i b = (i < length bytes) × (slice_index bytes i ≡ b)
 
--- A quote (34), a backslash (92) and the control characters below a space (32) do not stand for themselves.
+-- A plain byte stands for itself: it is no quote (34), no backslash (92) and no control character
+-- below a space (32).
 abbrev pub IsPlain : ℕ → Type 0
 IsPlain b = (32 ≤ b) × (b ≢ 34) × (b ≢ 92)
 
@@ -44,8 +45,8 @@ IsLow n = (0xDC00 ≤ n) × (n < 0xE000)
 abbrev pub paired : ℕ → ℕ → ℕ
 paired high low = 0x10000 + (high - 0xD800) * 0x400 + (low - 0xDC00)
 
--- An escape, and the character that it stands for: a backslash and a letter; or a backslash, `u` (117) and the digits of a character
--- that is no half of a pair; or two of these that are both halves of a pair.
+-- An escape and its character: a backslash and a letter; or a backslash, `u` (117) and the digits
+-- of a character that is no half of a pair; or two of these that are both halves of a pair.
 pub data IsEscape : List ℕ → ℕ → Type 0 where
   of_letter : (letter c : ℕ) → IsLetter letter c → IsEscape (92 ∷ letter ∷ []) c
   of_unit : (digits : List ℕ) (c : ℕ) → IsUnit digits c → IsScalar c → IsEscape (92 ∷ 117 ∷ digits) c
@@ -64,9 +65,9 @@ abbrev pub Quotes : List ℕ → ℕ → ℕ → List ℕ → Type 0
 Quotes bytes start stop said = (start + 1 < stop) × HasByte bytes start 34 × HasByte bytes (stop - 1) 34
     × Unescapes (slice_range bytes (start + 1) (stop - 1)) said
 
--- ---- words of the reader's contracts
+-- ---- vocabulary of the reader's contracts
 
--- an escape stands there and says a character, and its last byte is ASCII
+-- an escape stands from `start` to `stop` and says a character, and its last byte is ASCII
 abbrev pub EscapeStands : List ℕ → ℕ → ℕ → ℕ → Type 0
 EscapeStands bytes start stop c = (start < stop) × (stop ≤ length bytes) × (slice_index bytes (stop - 1) < 128) × IsEscape (slice_range bytes start stop) c
 
@@ -74,10 +75,10 @@ EscapeStands bytes start stop c = (start < stop) × (stop ≤ length bytes) × (
 abbrev pub AddsEscape : List ℕ → List ℕ → List ℕ → Type 0
 AddsEscape written old new = (c : ℕ) × IsEscape written c × (new ≡ old ++ encode_utf8 c)
 
--- a digit in base sixteen stands there
+-- a digit in base sixteen stands at this place
 abbrev pub HasDigit : List ℕ → ℕ → ℕ → Type 0
 HasDigit bytes i d = (i < length bytes) × (d ≡ digit_value (slice_index bytes i)) × (d < 16) × (slice_index bytes i < 128)
 
--- four of them
+-- four digits in base sixteen stand from this place on
 abbrev pub IsUnitAt : List ℕ → ℕ → ℕ → Type 0
 IsUnitAt bytes at n = (at + 4 ≤ length bytes) × (slice_index bytes (at + 3) < 128) × (n < 0x10000) × IsUnit (slice_range bytes at (at + 4)) n

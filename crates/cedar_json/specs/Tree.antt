@@ -1,4 +1,5 @@
--- A value of JSON as plain data. Each part has the byte at which it begins and the one behind its last.
+-- A tree is a value of JSON as plain data. Each part has the byte at which it begins and the byte
+-- behind its last.
 use Rattle.std.specs.Prelude.{ℕ, ℤ, Bool, List}
 
 mutual
@@ -17,7 +18,7 @@ mutual
     no_items : Items
     item : Tree → Items → Items
 
-  -- a key has its text and its two bytes
+  -- members: each key has its text and its two bytes
   pub data Members : Type 0 where
     no_members : Members
     member : List ℕ → ℕ → ℕ → Tree → Members → Members

@@ -1,4 +1,4 @@
--- The tree that a value stands for.
+-- The view of a value: the tree that it stands for.
 use Rattle.std.specs.Prelude.{List, [], ◌∷◌, map}
 use Rattle.cedar_json.specs.declared.values.Key.{Key}
 use Rattle.cedar_json.specs.declared.values.Value.{Value, fold-Value}

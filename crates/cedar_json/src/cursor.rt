@@ -1,4 +1,4 @@
-// A place in a text that is read from left to right.
+// The cursor: a position in a text that is read from left to right.
 ghost use Rattle.std.specs.Prelude.{◌≤◌, length};
 
 use std::alloc::Global;
@@ -8,7 +8,7 @@ use std::alloc::Global;
 pub struct Cursor<'a> {
     pub alloc: Global,
     pub text: &'a str,
-    /// How many bytes were read.
+    /// The number of bytes that were read.
     pub at: usize,
     ghost within: { at ≤ length text.now },
 }

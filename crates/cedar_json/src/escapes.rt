@@ -1,10 +1,10 @@
-// Escapes in texts.
+// Escapes in quoted texts: a backslash with a letter, or with `u` and four digits.
 ghost use Rattle.std.specs.Prelude.{◌+◌, ◌-◌, ◌<◌, ◌≤◌, length, IsTrue, OnOk, IfOk};
 ghost use Rattle.cedar_json.specs.Texts.{HasByte, HasDigit, IsHigh, IsLow, IsLetter, IsUnitAt, EscapeStands};
 
 use crate::faults::Fault;
 
-/// The character of the escape that begins with this backslash, and where it ends.
+/// Reads the escape whose backslash is at `at`: its character, and the byte behind the escape.
 pub fn escape(bytes: &[u8], at: usize) -> Result<(char, usize), Fault>
     requires { HasByte bytes.now at 92 }
     ensures { IfOk result (λ r. EscapeStands bytes.now at r.1 r.0) }
@@ -15,7 +15,7 @@ pub fn escape(bytes: &[u8], at: usize) -> Result<(char, usize), Fault>
     }
 }
 
-/// The character that a letter behind a backslash stands for.
+/// Returns the character that a letter behind a backslash stands for.
 fn meant(letter: u8) -> Result<char, Fault>
     ensures letter { IfOk result (λ c. IsLetter letter c) }
     ensures ascii { OnOk result (letter < 128) }
@@ -33,7 +33,8 @@ fn meant(letter: u8) -> Result<char, Fault>
     }
 }
 
-/// The character of an escape by four digits, or by twice four that are a surrogate pair, and where it ends.
+/// Reads an escape of `u` and four digits, or a surrogate pair of two such: its character, and the
+/// byte behind it.
 fn unit_or_pair(bytes: &[u8], at: usize) -> Result<(char, usize), Fault>
     requires backslash { HasByte bytes.now at 92 }
     requires u { HasByte bytes.now (at + 1) 117 }
@@ -49,7 +50,8 @@ fn unit_or_pair(bytes: &[u8], at: usize) -> Result<(char, usize), Fault>
     }
 }
 
-/// The character of a surrogate pair, of which this is the first half, and where its second escape ends.
+/// Reads the second half of a surrogate pair whose first half is `high`: the character of the pair,
+/// and the byte behind the second escape.
 fn pair(bytes: &[u8], at: usize, high: u32) -> Result<(char, usize), Fault>
     requires backslash { HasByte bytes.now at 92 }
     requires u { HasByte bytes.now (at + 1) 117 }
@@ -69,21 +71,21 @@ fn pair(bytes: &[u8], at: usize, high: u32) -> Result<(char, usize), Fault>
     }
 }
 
-/// Whether a unit is the first half of a surrogate pair.
+/// Returns whether a unit is the first half of a surrogate pair.
 fn is_high(unit: u32) -> bool
     ensures { IsTrue result → IsHigh unit }
 {
     0xd800 <= unit && unit < 0xdc00
 }
 
-/// Whether a unit is the second half of a surrogate pair.
+/// Returns whether a unit is the second half of a surrogate pair.
 fn is_low(unit: u32) -> bool
     ensures { IsTrue result → IsLow unit }
 {
     0xdc00 <= unit && unit < 0xe000
 }
 
-/// The number of four digits in base sixteen.
+/// Returns the number that the four hexadecimal digits from `at` on write.
 fn unit(bytes: &[u8], at: usize) -> Result<u32, Fault>
     requires { at ≤ length bytes.now }
     ensures { IfOk result (λ n. IsUnitAt bytes.now at n) }
@@ -95,7 +97,7 @@ fn unit(bytes: &[u8], at: usize) -> Result<u32, Fault>
     Ok(((first * 16 + second) * 16 + third) * 16 + fourth)
 }
 
-/// The digit in base sixteen at this place.
+/// Returns the value of the hexadecimal digit at `at`.
 fn digit_at(bytes: &[u8], at: usize) -> Result<u32, Fault>
     ensures { IfOk result (λ d. HasDigit bytes.now at d) }
 {
@@ -106,7 +108,7 @@ fn digit_at(bytes: &[u8], at: usize) -> Result<u32, Fault>
     }
 }
 
-/// Fails where another byte stands at this place.
+/// Fails if the byte at `at` is another than `byte`.
 fn expect(bytes: &[u8], at: usize, byte: u8) -> Result<(), Fault>
     ensures { OnOk result (HasByte bytes.now at byte) }
 {
@@ -117,7 +119,7 @@ fn expect(bytes: &[u8], at: usize, byte: u8) -> Result<(), Fault>
     }
 }
 
-/// The byte at this place. A text that ends before it has no end.
+/// Returns the byte at `at`. If the text ends before it, the fault is that the text does not end.
 fn byte_at(bytes: &[u8], at: usize) -> Result<u8, Fault>
     ensures { IfOk result (λ b. HasByte bytes.now at b) }
 {

@@ -1,7 +1,7 @@
-// Small texts and what they say.
+// Examples of small texts and of the trees that they write.
 ghost use Rattle.cedar_json.specs.TextExamples.{TextExamples};
 
-/// What some small texts say, and what they do not.
+/// States which trees some small texts write, and which they do not write.
 pub fn examples_of_texts()
     ensures { TextExamples }
 {}

@@ -1,41 +1,41 @@
-// Why a text cannot be read.
+// Faults of a text that is read as JSON.
 ghost use Rattle.std.specs.Prelude.{◌≡◌, alloc_error};
 ghost use Rattle.cedar_json.specs.declared.faults.ReadError.TheVariants.{Memory};
 
 use std::alloc::{AllocError, AllocFailed};
 use thiserror::Error;
 
-/// What is wrong at a place of a text.
+/// A fault at a byte of a text.
 #[derive(Clone, Copy, PartialEq, Eq, Debug, Error)]
 pub enum Fault {
     /// The text has more than `MAX_LENGTH` bytes.
     #[error("too long")]
     TooLong,
-    /// Objects and arrays stand inside each other more than `MAX_DEPTH` times.
+    /// Objects and arrays are nested more than `MAX_DEPTH` deep.
     #[error("nested too deep")]
     TooDeep,
     /// The text begins with a byte order mark.
     #[error("a byte order mark")]
     ByteOrderMark,
-    /// Something else stands where a value should.
+    /// A value is missing: something else stands in its place.
     #[error("a value is expected")]
     Value,
-    /// Something else stands where a key should.
+    /// A key in quotes is missing: something else stands in its place.
     #[error("a key in quotes is expected")]
     Key,
     /// No `:` stands behind a key.
     #[error("`:` is expected")]
     Colon,
-    /// Something else stands behind an entry of an object.
+    /// An entry of an object is followed by neither `,` nor `}`.
     #[error("`,` or `}}` is expected")]
     InObject,
-    /// Something else stands behind an item of an array.
+    /// An item of an array is followed by neither `,` nor `]`.
     #[error("`,` or `]` is expected")]
     InArray,
-    /// Something stands behind the value.
+    /// Further bytes stand behind the value.
     #[error("the end is expected")]
     Trailing,
-    /// The same key stands twice in an object.
+    /// A key stands twice in an object.
     #[error("the same key twice")]
     SameKey,
     /// No digit stands behind a minus.
@@ -57,12 +57,13 @@ pub enum Fault {
     Control,
     #[error("an escape that is none")]
     Escape,
-    /// Half of a surrogate pair stands alone.
+    /// One half of a surrogate pair stands alone.
     #[error("half of a surrogate pair")]
     Surrogate,
 }
 
-/// Why a text cannot be read: its first fault, and at which byte it stands; or memory was refused.
+/// The reason why a text cannot be read: its first fault and the byte at which it stands, or
+/// refused memory.
 #[derive(Debug, Drop, Error)]
 pub enum ReadError {
     #[error("memory was refused")]

@@ -1,26 +1,26 @@
-// What the values of a text have to be where JSON says something of Cedar.
+// Forms of values: the readers that check a value of JSON against the form that Cedar demands.
 use crate::faults::{Fault, ReadError};
 use crate::values::{Key, Value, ValueKind};
 use cedar_types::base::Loc;
 use std::alloc::{AllocError, AllocFailed};
 use thiserror::Error;
 
-/// What is wrong at a place of a text of JSON that is to be a schema or policies.
+/// A fault at a byte of a JSON text that is read as a schema or as policies.
 #[derive(Clone, Copy, PartialEq, Eq, Debug, Error)]
 pub enum FormFault {
-    /// The text is no JSON that is read.
+    /// The text is not JSON that the reader accepts.
     #[error("{0}")]
     Json(Fault),
-    /// Something else should stand here.
+    /// Another form of value is expected here.
     #[error("{0} is expected")]
     Expected(&'static str),
     /// `null` stands where Cedar has a value.
     #[error("`null` has no meaning here")]
     Null,
-    /// An object has no entry of this key.
+    /// A key is missing in an object.
     #[error("the key `{0}` is missing")]
     Missing(&'static str),
-    /// A key that has no meaning in its object, or none beside the others.
+    /// A key that has no meaning in its object, or none together with the other keys.
     #[error("a key that has no meaning here")]
     UnknownKey,
     /// A name that is not words with `::` between them.
@@ -28,30 +28,32 @@ pub enum FormFault {
     Name,
     #[error("a name that is not declared")]
     Undeclared,
-    /// A name that means another type in Cedar's own syntax, as where an entity type and a common type have it.
+    /// A name that means another type in Cedar's own syntax, for example if an entity type and a
+    /// common type share it.
     #[error("a name that means another type in Cedar's own syntax")]
     Hidden,
-    /// A common type that stands for itself.
+    /// A common type whose definition leads back to itself.
     #[error("a common type that stands for itself")]
     Circular,
     #[error("a record that is open to other attributes")]
     OpenRecord,
     #[error("attributes of an action")]
     ActionAttributes,
-    /// The type of an action in a policy's scope has another name.
+    /// The type of an action in a policy's scope is not named `Action`.
     #[error("the type of an action has to be named `Action`")]
     ActionType,
-    /// `a is T in b`, where `a` stands in the tree twice and has such an operator itself.
+    /// `a is T in b`, if `a` stands twice in the tree and has such an operator itself.
     #[error("an `is` with `in` behind an operand that has one too")]
     Twice,
-    /// What is written in Cedar's own syntax would be too long.
+    /// The schema would be too long in Cedar's own syntax.
     #[error("too large")]
     TooLarge,
     #[error("nested too deep")]
     TooDeep,
 }
 
-/// Why a text of JSON gives no schema or no policy: its first fault, and at which byte it stands; or memory was refused.
+/// The reason why a JSON text gives no schema or no policy: its first fault and the byte at which
+/// it stands, or refused memory.
 #[derive(Debug, Drop, Error)]
 pub enum FormError {
     #[error("memory was refused")]
@@ -60,7 +62,7 @@ pub enum FormError {
     At(usize, FormFault),
 }
 
-/// A fault of a text of JSON, and the byte at which it stands.
+/// A fault of a JSON text, and the byte at which it stands.
 #[derive(Clone, Copy, PartialEq, Eq, Debug)]
 pub struct PlacedFault {
     pub start: usize,
@@ -88,7 +90,7 @@ impl From<ReadError> for FormError {
     }
 }
 
-/// The entries of an object, and where it stands.
+/// The entries of an object, and its place in the text.
 #[derive(Clone, Copy)]
 pub struct Object<'a> {
     pub entries: &'a [(Key, Value)],
@@ -96,7 +98,7 @@ pub struct Object<'a> {
 }
 
 impl<'a> Object<'a> {
-    /// The object that a value has to be.
+    /// Reads a value as an object. Another kind of value is a fault.
     pub fn of(value: &'a Value) -> Result<Object<'a>, FormError> {
         match &value.kind {
             ValueKind::Object(entries) => Ok(Object {
@@ -107,7 +109,7 @@ impl<'a> Object<'a> {
         }
     }
 
-    /// The value of this key, if it is there.
+    /// Returns the value of a key, if the object has the key.
     pub fn get(&self, key: &str) -> Option<&'a Value> {
         for (own, value) in self.entries {
             if own.name.as_str() == key {
@@ -117,13 +119,14 @@ impl<'a> Object<'a> {
         None
     }
 
-    /// The value of this key, if it is there: none where it is `null`, as Cedar writes what is not there.
+    /// Returns the value of a key, if the object has the key. Returns `None` for `null`, because
+    /// Cedar writes `null` for an absent value.
     pub fn given(&self, key: &str) -> Option<&'a Value> {
         let value = self.get(key)?;
         if is_null(value) { None } else { Some(value) }
     }
 
-    /// The value of this key, which has to be there.
+    /// Returns the value of a key. A missing key is a fault.
     pub fn need(&self, key: &'static str) -> Result<&'a Value, FormError> {
         match self.get(key) {
             Some(value) => Ok(value),
@@ -131,7 +134,7 @@ impl<'a> Object<'a> {
         }
     }
 
-    /// Fails at the first key that is none of these.
+    /// Fails at the first key that is not in `keys`.
     pub fn allow(&self, keys: &[&str]) -> Result<(), FormError> {
         for (own, _) in self.entries {
             if !is_among(keys, own.name.as_str()) {
@@ -142,7 +145,7 @@ impl<'a> Object<'a> {
     }
 }
 
-/// Whether a name is one of these.
+/// Returns whether a name is one of these keys.
 pub fn is_among(keys: &[&str], name: &str) -> bool {
     for key in keys {
         if *key == name {
@@ -152,12 +155,12 @@ pub fn is_among(keys: &[&str], name: &str) -> bool {
     false
 }
 
-/// Whether a value is `null`.
+/// Returns whether a value is `null`.
 pub fn is_null(value: &Value) -> bool {
     matches!(value.kind, ValueKind::Null)
 }
 
-/// The fault of a value in whose place something else is expected.
+/// Returns the fault of a value that stands in the place of `what`.
 pub fn expected(value: &Value, what: &'static str) -> FormError {
     let fault = match &value.kind {
         ValueKind::Null => FormFault::Null,
@@ -166,7 +169,7 @@ pub fn expected(value: &Value, what: &'static str) -> FormError {
     FormError::At(value.place.start, fault)
 }
 
-/// The items of the array that a value has to be.
+/// Returns the items of a value that has to be an array.
 pub fn items_of(value: &Value) -> Result<&[Value], FormError> {
     match &value.kind {
         ValueKind::Array(items) => Ok(items.as_slice()),
@@ -174,7 +177,7 @@ pub fn items_of(value: &Value) -> Result<&[Value], FormError> {
     }
 }
 
-/// What the text says that a value has to be.
+/// Returns the string of a value that has to be a text.
 pub fn text_of(value: &Value) -> Result<&str, FormError> {
     match &value.kind {
         ValueKind::Text(text) => Ok(text.as_str()),
@@ -182,7 +185,7 @@ pub fn text_of(value: &Value) -> Result<&str, FormError> {
     }
 }
 
-/// The truth value that a value has to be.
+/// Returns the truth value of a value that has to be `true` or `false`.
 pub fn truth_of(value: &Value) -> Result<bool, FormError> {
     match &value.kind {
         ValueKind::Boolean(truth) => Ok(*truth),
@@ -190,8 +193,8 @@ pub fn truth_of(value: &Value) -> Result<bool, FormError> {
     }
 }
 
-/// Fails where annotations are no object of texts. In place of a text may stand `null`, as Cedar writes an annotation without a
-/// value.
+/// Fails if the annotations are not an object of texts. A value may also be `null`, because Cedar
+/// writes `null` for an annotation without a value.
 pub fn check_annotations(object: Object<'_>) -> Result<(), FormError> {
     let Some(annotations) = object.given("annotations") else {
         return Ok(());
@@ -202,7 +205,7 @@ pub fn check_annotations(object: Object<'_>) -> Result<(), FormError> {
     Ok(())
 }
 
-/// The value of an annotation: the empty text where it has none.
+/// Returns the text of an annotation: the empty text for `null`.
 pub fn annotation_of(value: &Value) -> Result<&str, FormError> {
     if is_null(value) {
         return Ok("");

@@ -1,5 +1,5 @@
-//! Texts of JSON as trees of values, each with its place, or the first fault of a text and where it stands; and what the forms of
-//! Cedar in JSON say: schemas as texts in Cedar's own syntax, and policies as trees.
+//! JSON texts as trees of values, each with its place, or the first fault of a text and its byte;
+//! and Cedar's JSON forms: schemas as texts in Cedar's own syntax, and policies as trees.
 #![tactic(auto)]
 
 mod cursor;

@@ -1,4 +1,4 @@
-// Values without parts.
+// Literals: values without parts.
 ghost use Rattle.std.specs.Prelude.{ℕ, length, OnOk, IfOk, IfErr};
 ghost use Rattle.cedar_json.specs.Cursors.{GoesOn, IsFaultWithin};
 ghost use Rattle.cedar_json.specs.Fits.{FormFits};
@@ -45,7 +45,7 @@ fn word(cursor: &mut Cursor<'_>) -> Result<ValueKind, ReadError>
     Ok(kind)
 }
 
-/// How many bytes of letters and digits a text begins with.
+/// Returns the number of bytes of the letters and digits at the beginning of a text.
 fn letters_in_front(text: &str) -> usize {
     text.find(|c: char| !c.is_alphanumeric())
         .unwrap_or(text.len())

@@ -1,4 +1,4 @@
-// Numbers. Those that are read are whole and fit 64 bits.
+// Numbers: the reader accepts whole numbers that fit 64 bits.
 ghost use Rattle.std.specs.Prelude.{◌≡◌, ◌≢◌, ◌+◌, ℕ, false, length, ◌<◌, ◌≤◌, slice_range, slice_index, IfSome, OnOk, IfOk, IfErr};
 ghost use Rattle.cedar_json.specs.Cursors.{GoesOn, IsFaultWithin};
 ghost use Rattle.cedar_json.specs.Numbers.{SaysInteger, IsDecimal};
@@ -33,7 +33,7 @@ pub fn integer(cursor: &mut Cursor<'_>) -> Result<i64, ReadError>
     }
 }
 
-/// Whether several digits stand between these bytes, of which a zero is the first.
+/// Returns whether several digits stand from `start` to `end` and the first is a zero.
 fn begins_with_zero(bytes: &[u8], start: usize, end: usize) -> bool
     requires within { (start < «end») × («end» ≤ length bytes.now) }
     ensures { result ≡ false → start + 1 < «end» → slice_index bytes.now start ≢ 48 }
@@ -41,14 +41,14 @@ fn begins_with_zero(bytes: &[u8], start: usize, end: usize) -> bool
     bytes[start] == b'0' && start + 1 < end
 }
 
-/// The number between these bytes of a text, if it fits.
+/// Returns the number that stands from `start` to `end` in a text, if it fits 64 bits.
 fn number_at(text: &str, start: usize, end: usize) -> Option<i64>
     ensures { IfSome result (λ z. SaysInteger (slice_range text.now start «end») z) }
 {
     text.get(start..end)?.parse::<i64>().ok()
 }
 
-/// Where the digits end that stand from this byte on.
+/// Returns the end of the digits that stand from `start` on.
 fn behind_digits(bytes: &[u8], start: usize) -> usize
     requires { start ≤ length bytes.now }
     ensures within { (start ≤ result) × (result ≤ length bytes.now) }
@@ -61,7 +61,7 @@ fn behind_digits(bytes: &[u8], start: usize) -> usize
     at
 }
 
-/// Fails where a fraction or an exponent stands behind the digits of a number.
+/// Fails if a fraction or an exponent follows the digits of a number.
 fn check_whole(cursor: &Cursor<'_>) -> Result<(), ReadError>
     ensures { IfErr result (λ e. IsFaultWithin (length cursor.now.text.now) e) }
 {

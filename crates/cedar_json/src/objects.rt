@@ -1,4 +1,4 @@
-// The entries of an object.
+// Entries of an object, read one by one.
 ghost use Rattle.std.specs.Prelude.{◌≡◌, ℕ, ◌≤◌, ◌∷◌, [], ◌++◌, true, false, length, OnOk, IfOk, IfErr};
 ghost use Rattle.cedar_json.specs.Cursors.{GoesOn, IsFaultWithin};
 ghost use Rattle.cedar_json.specs.Keys.{is_among, KeepsAll};
@@ -14,7 +14,7 @@ use std::alloc::{AllocError, Global};
 use std::collections::BTreeSet;
 use std::rc::RcStr;
 
-/// The entries of an object, of which more may follow.
+/// The entries of an object that were read so far; more may follow.
 #[derive(Drop)]
 pub struct Entries {
     entries: Vec<(Key, Value)>,
@@ -22,7 +22,7 @@ pub struct Entries {
 }
 
 impl Entries {
-    /// None so far.
+    /// Makes the list without entries.
     pub fn new(alloc: Global) -> Entries
         ensures { result.entries.items ≡ [] }
     {
@@ -32,7 +32,7 @@ impl Entries {
         }
     }
 
-    /// Reads a key and the `:` behind it. It fails where the key is there.
+    /// Reads a key and the `:` behind it. A key that the object already has is a fault.
     pub fn key(&mut self, cursor: &mut Cursor<'_>) -> Result<Key, ReadError>
         ensures fresh { IfOk result (λ k. is_among self.old.keys (text_of k.name) ≡ false) }
         ensures known { IfOk result (λ k. is_among self.new.keys (text_of k.name) ≡ true) }
@@ -52,7 +52,7 @@ impl Entries {
         Ok(key)
     }
 
-    /// Takes note of a key. It fails where the key is there.
+    /// Records a key. A key that was recorded before is a fault.
     fn note(&mut self, key: &Key) -> Result<(), ReadError>
         ensures fresh { OnOk result (is_among self.old.keys (text_of key.now.name) ≡ false) }
         ensures known { OnOk result (is_among self.new.keys (text_of key.now.name) ≡ true) }
@@ -70,7 +70,7 @@ impl Entries {
         }
     }
 
-    /// Adds the entry of this key.
+    /// Adds the entry of a key and its value.
     pub fn push(&mut self, key: Key, value: Value) -> Result<(), AllocError>
         ensures added { OnOk result (self.new.entries.items
             ≡ self.old.entries.items ++ (key, value) ∷ []) }
@@ -80,7 +80,7 @@ impl Entries {
         Ok(())
     }
 
-    /// All entries, in order.
+    /// Returns all entries, in order.
     pub fn finish(self) -> Vec<(Key, Value)>
         ensures { result.items ≡ self.entries.items }
     {
@@ -89,7 +89,7 @@ impl Entries {
     }
 }
 
-/// Reads the text of a key, with the blanks before it.
+/// Reads the blanks before a key, and the key in its quotes.
 fn key_in_quotes(cursor: &mut Cursor<'_>) -> Result<Key, ReadError>
     ensures on { OnOk result (GoesOn cursor.old cursor.new) }
     ensures blanks { IfOk result (λ k. Blanks cursor.old.text.now cursor.old.at k.place.start) }

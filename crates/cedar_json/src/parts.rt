@@ -1,4 +1,5 @@
-// Parts of a text, of which one may be dropped before the next one is read.
+// Parts of a text that are read one by one, so that the caller can drop each before it reads the
+// next.
 ghost use Rattle.std.specs.Prelude.{◌≡◌, length, IfOk, IfErr, IfSome, OnOk};
 ghost use Rattle.cedar_json.specs.Cursors.{GoesOn, IsFaultWithin};
 ghost use Rattle.cedar_json.specs.Fits.{FitsIn};
@@ -10,10 +11,10 @@ use crate::values::{MAX_DEPTH, Value};
 use crate::whole::{begins_empty, ends, value};
 use std::alloc::Global;
 
-/// How many objects and arrays may stand inside each other in an item.
+/// The number of objects and arrays that may stand inside each other in an item.
 const ITEM_DEPTH: usize = MAX_DEPTH - 1;
 
-/// Reads the items of a text that is an array, one after another.
+/// Reads the items of a text that is one array, one after another.
 #[derive(Drop)]
 pub struct Items<'a> {
     cursor: Cursor<'a>,
@@ -22,7 +23,8 @@ pub struct Items<'a> {
 }
 
 impl<'a> Items<'a> {
-    /// The items of a text, of which none was read yet; `None` where the text begins with something else than an array.
+    /// Begins to read the items of a text. Returns `None` if the text begins with anything else
+    /// than an array.
     pub fn new(alloc: Global, text: &'a str) -> Result<Option<Items<'a>>, ReadError>
         ensures ok { IfOk result (λ o. IfSome o (λ i. i.cursor.text.now ≡ text.now)) }
         ensures err { IfErr result (λ e. IsFaultWithin (length text.now) e) }
@@ -36,7 +38,8 @@ impl<'a> Items<'a> {
         Ok(Some(Items { cursor, is_ended }))
     }
 
-    /// The next item; `None` behind the last one, where the text ends. The faults are those of the whole text, in its order.
+    /// Reads the next item; `None` behind the last one, at the end of the text. The faults are
+    /// those of the whole text, in order.
     pub fn next_item(&mut self) -> Result<Option<Value>, ReadError>
         ensures on { OnOk result (GoesOn self.old.cursor self.new.cursor) }
         ensures ok { IfOk result (λ o. IfSome o (λ v.
@@ -53,7 +56,7 @@ impl<'a> Items<'a> {
     }
 }
 
-/// Reads blanks up to the end of a text, where something else is a fault.
+/// Reads blanks up to the end of a text. Any other byte is a fault.
 pub fn end(cursor: &mut Cursor<'_>) -> Result<(), ReadError>
     ensures on { OnOk result (GoesOn cursor.old cursor.new) }
     ensures err { IfErr result (λ e. IsFaultWithin (length cursor.old.text.now) e) }
@@ -65,8 +68,8 @@ pub fn end(cursor: &mut Cursor<'_>) -> Result<(), ReadError>
     Ok(())
 }
 
-/// Reads the value that begins at a byte of a text, in which so many objects and arrays may stand inside each other. What stands
-/// before and behind it is not looked at.
+/// Reads the value that begins at `start`, in which at most `left` objects and arrays may stand
+/// inside each other. The reader ignores the text before and behind the value.
 pub fn value_at(alloc: Global, text: &str, start: usize, left: usize) -> Result<Value, ReadError>
     ensures ok { IfOk result (λ v. FitsIn left 0 (length text.now) (tree_of v)) }
     ensures err { IfErr result (λ e. IsFaultWithin (length text.now) e) }

@@ -1,4 +1,5 @@
-// Policies in Cedar's form of JSON, as the trees that are validated. Each node has the place of its part of the text.
+// Policies in Cedar's JSON form, read as the trees that are validated. Each node has the place of
+// its part of the text.
 mod binaries;
 mod constraints;
 mod entities;

@@ -1,4 +1,4 @@
-// Schemas in Cedar's form of JSON, as texts in Cedar's own syntax.
+// Schemas in Cedar's JSON form, written as texts in Cedar's own syntax.
 mod actions;
 mod declared;
 mod entity_types;
@@ -13,24 +13,25 @@ use declared::{Declared, Names};
 use namespaces::put_namespace;
 use std::alloc::{AllocError, Global};
 
-/// How many faults of a text are told.
+/// The number of faults of a text that are reported.
 const MAX_FAULTS: usize = 100;
 
-/// A schema in JSON with faults of form.
+/// A JSON schema with faults of form.
 #[derive(Debug, Drop)]
 pub struct FaultySchema {
-    /// The faults of form by place, the first hundred, at each place one.
+    /// The faults of form by place: the first hundred, one at each place.
     pub faults: Vec<PlacedFault>,
-    /// The schema without what has a fault, where all names that it declares could be read: there a type with a fault is a
-    /// record without attributes.
+    /// The schema without its faulty parts, if all names that it declares could be read. In it,
+    /// a type with a fault is a record without attributes.
     pub rest: Option<Translation>,
 }
 
-/// The text in Cedar's own syntax that declares what a text of JSON does, with the places of that one. What is wrong with the
-/// declarations as such, as a type in itself or a parent that is not declared, shows when the text that was written is read.
+/// Writes the declarations of a JSON text in Cedar's own syntax, with the places of the JSON text.
+/// Faults of the declarations as such, for example a type inside itself or a parent that is not
+/// declared, show when the written text is read.
 ///
-/// It fails where the text is no JSON, or not of the form of schemas, and where a name means something else in Cedar's syntax,
-/// with the first fault by place.
+/// Fails if the text is not JSON, if it does not have the form of schemas, or if a name means
+/// something else in Cedar's syntax. The error is the first fault by place.
 pub fn schema_text(alloc: Global, json: &str) -> Result<Translation, FormError> {
     match schema_text_or_faults(alloc, json)? {
         Ok(written) => Ok(written),
@@ -45,8 +46,8 @@ fn first_of(faulty: &FaultySchema) -> FormError {
     }
 }
 
-/// The text of a schema as `schema_text` gives it, or all faults of form. Behind each of them reading goes on. A text that is no
-/// JSON has one fault.
+/// Writes the text of a schema as `schema_text` does, or returns its faults of form, because the
+/// reader goes on behind each fault. A text that is not JSON has one fault.
 pub fn schema_text_or_faults(
     alloc: Global,
     json: &str,
@@ -66,8 +67,8 @@ pub fn schema_text_or_faults(
     Ok(Err(FaultySchema { faults, rest }))
 }
 
-/// Writes the declarations of a schema, and answers which of its names were read. Faults are noted; it fails where nothing can be
-/// written behind one.
+/// Writes the declarations of a schema, and returns which of its names were read. It notes faults,
+/// and fails only if it can write nothing behind one.
 fn put_schema(alloc: Global, out: &mut Translation, json: &str) -> Result<Names, FormError> {
     let read = value_alone(alloc, json)?;
     let namespaces = Object::of(&read)?;
@@ -80,7 +81,8 @@ fn put_schema(alloc: Global, out: &mut Translation, json: &str) -> Result<Names,
     Ok(declared.names)
 }
 
-/// The faults by place, and at each place the first of them. Where names are missing, none is told of a name that is not declared.
+/// Sorts the faults by place and keeps the first at each place. If names are missing, it leaves out
+/// the faults of names that are not declared.
 fn first_by_place(
     alloc: Global,
     mut faults: Vec<PlacedFault>,

@@ -1,4 +1,4 @@
-// The steps of a cursor.
+// Steps of a cursor through its text.
 ghost use Rattle.std.specs.Prelude.{◌≡◌, ◌+◌, ◌<◌, ◌≤◌, length, slice_get, false, IsTrue, IfSome, IfNone, IfErr, IfOk, OnOk};
 ghost use Rattle.cedar_json.specs.Cursors.{GoesOn, IsFaultWithin};
 ghost use Rattle.cedar_json.specs.Says.{Blanks, is_blank};
@@ -9,11 +9,12 @@ use crate::faults::{Fault, ReadError};
 use cedar_types::base::Loc;
 use std::alloc::Global;
 
-/// How many bytes a text may have.
+/// The number of bytes that a text may have.
 pub const MAX_LENGTH: usize = 1 << 26;
 
 impl<'a> Cursor<'a> {
-    /// At the beginning of the text. It fails where the text is too long or begins with a byte order mark.
+    /// Starts at the beginning of a text. Fails if the text is too long or begins with a byte order
+    /// mark.
     pub fn new(alloc: Global, text: &'a str) -> Result<Cursor<'a>, ReadError>
         ensures ok { IfOk result (λ c. (c.text.now ≡ text.now) × (c.at ≡ 0)) }
         ensures err { IfErr result (λ e. IsFaultWithin (length text.now) e) }
@@ -27,7 +28,7 @@ impl<'a> Cursor<'a> {
         Ok(Cursor { alloc, text, at: 0 })
     }
 
-    /// The next byte, which stays.
+    /// Returns the next byte, without reading it.
     pub fn peek(&self) -> Option<u8>
         ensures value { result ≡ slice_get self.now.text.now self.now.at }
         ensures past { IfNone result (length self.now.text.now ≤ self.now.at) }
@@ -36,12 +37,12 @@ impl<'a> Cursor<'a> {
         self.text.as_bytes().get(self.at).copied()
     }
 
-    /// What was not read.
+    /// Returns the text that was not read yet.
     pub fn rest(&self) -> &'a str {
         self.text.get(self.at..).unwrap_or("")
     }
 
-    /// Passes so many bytes, or those that there are.
+    /// Passes `count` bytes, or as many as are left.
     pub fn pass(&mut self, count: usize)
         ensures on { GoesOn self.old self.new }
         ensures passed { self.old.at + count ≤ length self.old.text.now
@@ -58,7 +59,7 @@ impl<'a> Cursor<'a> {
         self.at = behind_blanks(self.text.as_bytes(), self.at);
     }
 
-    /// Whether this byte comes next. It is read then.
+    /// Returns whether `byte` comes next, and reads it if so.
     pub fn takes(&mut self, byte: u8) -> bool
         ensures on { GoesOn self.old self.new }
         ensures taken { IsTrue result
@@ -74,7 +75,7 @@ impl<'a> Cursor<'a> {
         }
     }
 
-    /// Reads this byte, which has to come next, else this is the fault.
+    /// Reads `byte`, which has to come next. Otherwise it returns `fault` at the next byte.
     pub fn expect(&mut self, byte: u8, fault: Fault) -> Result<(), ReadError>
         ensures on { OnOk result (GoesOn self.old self.new) }
         ensures taken { OnOk result
@@ -88,14 +89,14 @@ impl<'a> Cursor<'a> {
         }
     }
 
-    /// The fault at the next byte.
+    /// Returns `fault` at the next byte.
     pub fn fault(&self, fault: Fault) -> ReadError
         ensures { IsFaultWithin (length self.now.text.now) result }
     {
         ReadError::At(self.at, fault)
     }
 
-    /// From this byte to the last one that was read.
+    /// Returns the place from `start` to the last byte that was read.
     pub fn since(&self, start: usize) -> Loc
         ensures { result ≡ record { start = start; «end» = self.now.at } }
     {
@@ -106,7 +107,7 @@ impl<'a> Cursor<'a> {
     }
 }
 
-/// Where the blanks end that stand from this byte on.
+/// Returns the end of the blanks that stand from `start` on.
 fn behind_blanks(bytes: &[u8], start: usize) -> usize
     requires { start ≤ length bytes.now }
     ensures within { result ≤ length bytes.now }

@@ -1,4 +1,4 @@
-// Texts in quotes.
+// Quoted texts.
 ghost use Rattle.std.specs.Prelude.{◌≡◌, ◌+◌, ◌-◌, ◌++◌, ℕ, false, ◌<◌, ◌≤◌, length, slice_index, slice_range, IsTrue, OnOk, IfOk, IfErr};
 ghost use Rattle.std.specs.String.{string_bytes};
 ghost use Rattle.cedar_json.specs.Cursors.{GoesOn, IsFaultWithin};
@@ -11,9 +11,11 @@ use crate::faults::{Fault, ReadError};
 use std::alloc::AllocError;
 use std::rc::RcStr;
 
-/// Reads a text in quotes, of which the first comes next: what it says.
+/// Reads a quoted text whose opening quote comes next, and returns its characters with the escapes
+/// replaced.
 ///
-/// The fault of an escape stands at its backslash, that of a text without an end at its first quote.
+/// The fault of an escape stands at its backslash; the fault of a text without an end stands at its
+/// first quote.
 pub fn text(cursor: &mut Cursor<'_>) -> Result<RcStr, ReadError>
     requires { HasByte cursor.old.text.now cursor.old.at 34 }
     ensures on { OnOk result (GoesOn cursor.old cursor.new) }
@@ -38,7 +40,7 @@ pub fn text(cursor: &mut Cursor<'_>) -> Result<RcStr, ReadError>
     }
 }
 
-/// Adds the plain bytes that come next, behind a byte of ASCII.
+/// Adds the plain bytes that come next. The byte before them is ASCII.
 fn push_plain(cursor: &mut Cursor<'_>, plain: &mut String) -> Result<(), AllocError>
     requires behind { 0 < cursor.old.at }
     requires ascii { slice_index cursor.old.text.now (cursor.old.at - 1) < 128 }
@@ -54,7 +56,7 @@ fn push_plain(cursor: &mut Cursor<'_>, plain: &mut String) -> Result<(), AllocEr
     Ok(())
 }
 
-/// Where the plain bytes end that stand from this byte on.
+/// Returns the end of the plain bytes that stand from `start` on.
 fn behind_plain(bytes: &[u8], start: usize) -> usize
     requires { start ≤ length bytes.now }
     ensures within { (start ≤ result) × (result ≤ length bytes.now) }
@@ -75,7 +77,7 @@ fn is_plain(byte: u8) -> bool
     byte != b'"' && byte != b'\\' && byte >= b' '
 }
 
-/// Adds the character of the escape that comes next, in a text that begins at this byte.
+/// Adds the character of the escape that comes next. The quoted text begins at `start`.
 fn push_escape(cursor: &mut Cursor<'_>, plain: &mut String, start: usize) -> Result<(), ReadError>
     requires comes { HasByte cursor.old.text.now cursor.old.at 92 }
     requires start { start ≤ cursor.old.at }

@@ -1,4 +1,4 @@
-// Texts in Cedar's own syntax that were written from texts of JSON.
+// Translations of JSON texts into Cedar's own syntax.
 use crate::forms::{FormError, FormFault, Object, PlacedFault, is_among};
 use crate::steps::MAX_LENGTH;
 use crate::values::{Key, Value};
@@ -6,16 +6,17 @@ use cedar_types::base::Loc;
 use std::alloc::{AllocError, Global};
 use std::mem;
 
-/// A text that was written from another, and of which part of that other each of its parts is.
+/// A written text, with the part of the JSON text that each of its parts came from.
 #[derive(Debug, Drop)]
 pub struct Translation {
     text: String,
     marks: Vec<Mark>,
-    /// The faults of the other text that were noted.
+    /// The faults of the JSON text that were noted.
     faults: Vec<PlacedFault>,
 }
 
-/// From a byte on, up to the next mark, a text was written from this part of the other.
+/// A mark: from byte `at` to the next mark, the text was written from the part `origin` of the JSON
+/// text.
 #[derive(Clone, Copy, PartialEq, Eq, Debug)]
 pub struct Mark {
     pub at: usize,
@@ -23,7 +24,7 @@ pub struct Mark {
 }
 
 impl Translation {
-    /// Nothing so far.
+    /// Makes the empty text.
     pub fn new(alloc: Global) -> Translation {
         Translation {
             text: String::new(alloc),
@@ -32,13 +33,13 @@ impl Translation {
         }
     }
 
-    /// The text that was written.
+    /// Returns the text that was written.
     pub fn text(&self) -> &str {
         self.text.as_str()
     }
 
-    /// The part of the other text from which the one at this byte was written: that of the last mark up to there, or the
-    /// beginning where there is none.
+    /// Returns the part of the JSON text from which the byte `at` was written: that of the last
+    /// mark up to there, or the beginning if there is none.
     pub fn origin_of(&self, at: usize) -> Loc {
         let mut origin = Loc { start: 0, end: 0 };
         for mark in &self.marks {
@@ -50,19 +51,19 @@ impl Translation {
         origin
     }
 
-    /// Writes a text, of the same part as what stands before it.
+    /// Writes a text from the part of the last mark.
     pub fn put(&mut self, text: &str) -> Result<(), FormError> {
         self.text.push_str(text)?;
         Ok(())
     }
 
-    /// Writes a text that was written from this part. It fails where the whole is too long.
+    /// Writes a text from this part. Fails if the whole is too long.
     pub fn put_from(&mut self, origin: Loc, text: &str) -> Result<(), FormError> {
         self.mark(origin)?;
         self.put(text)
     }
 
-    /// Writes a text in quotes that was written from this part.
+    /// Writes a quoted text from this part.
     pub fn put_quoted(&mut self, origin: Loc, text: &str) -> Result<(), FormError> {
         self.mark(origin)?;
         self.put("\"")?;
@@ -72,7 +73,8 @@ impl Translation {
         self.put("\"")
     }
 
-    /// What a part of the other text is read as; none where it has a fault, which is noted, so that reading goes on behind it.
+    /// Returns the value that was read. It notes a fault and returns `None`, so that reading goes
+    /// on behind the fault.
     pub(crate) fn noted<T: Drop>(
         &mut self,
         read: Result<T, FormError>,
@@ -87,7 +89,7 @@ impl Translation {
         }
     }
 
-    /// Notes each key of an object that is none of these.
+    /// Notes a fault at each key of an object that is not in `keys`.
     pub(crate) fn allow(&mut self, object: Object<'_>, keys: &[&str]) -> Result<(), AllocError> {
         for (own, _) in object.entries {
             if !is_among(keys, own.name.as_str()) {
@@ -100,8 +102,8 @@ impl Translation {
         Ok(())
     }
 
-    /// The entries of the object at this key: none where the key is missing, or where something else stands there, which is
-    /// noted.
+    /// Returns the entries of the object at this key: none if the key is missing, or if something
+    /// else stands there. The second is a fault, and is noted.
     pub(crate) fn entries_at<'a>(
         &mut self,
         object: Object<'a>,
@@ -116,18 +118,18 @@ impl Translation {
         }
     }
 
-    /// The faults that were noted, which are none then.
+    /// Returns the noted faults and forgets them.
     pub(crate) fn take_faults(&mut self) -> Vec<PlacedFault> {
         let alloc = *self.faults.allocator();
         mem::replace(&mut self.faults, Vec::new(alloc))
     }
 
-    /// Whether a fault was noted.
+    /// Returns whether a fault was noted.
     pub(crate) fn has_faults(&self) -> bool {
         !self.faults.is_empty()
     }
 
-    /// Begins a part. It fails where the whole is too long.
+    /// Begins a part that was written from `origin`. Fails if the whole is too long.
     fn mark(&mut self, origin: Loc) -> Result<(), FormError> {
         if self.text.len() > MAX_LENGTH {
             return Err(FormError::At(origin.start, FormFault::TooLarge));

@@ -1,11 +1,11 @@
-// Values with their places.
+// Values of JSON with their places.
 use cedar_types::base::Loc;
 use std::rc::RcStr;
 
-/// How many objects and arrays may stand inside each other.
+/// The number of objects and arrays that may stand inside each other.
 pub const MAX_DEPTH: usize = 400;
 
-/// A value, and where it stands: from its first byte to its last, quotes and brackets included.
+/// A value and its place: from its first byte to its last, quotes and brackets included.
 #[cycle(value)]
 #[derive(Debug)]
 pub struct Value {
@@ -13,7 +13,7 @@ pub struct Value {
     pub kind: ValueKind,
 }
 
-// By hand, so that a proof has one call where a value is dropped.
+// Dropping is written by hand, so that a proof has one call for each dropped value.
 impl Drop for Value {
     #[cycle(value)]
     fn drop(self) {
@@ -25,11 +25,12 @@ impl Drop for Value {
 #[cycle(value)]
 #[derive(Debug, Drop)]
 pub enum ValueKind {
-    /// The entries of an object, each a key and its value, in the order of the text. No key stands there twice.
+    /// The entries of an object, each a key and its value, in the order of the text. No key occurs
+    /// twice.
     Object(Vec<(Key, Value)>),
     /// The items of an array.
     Array(Vec<Value>),
-    /// What a text in quotes says, its escapes replaced by what they stand for.
+    /// The string of a quoted text, its escapes replaced by their characters.
     Text(RcStr),
     Integer(i64),
     Boolean(bool),
@@ -37,7 +38,7 @@ pub enum ValueKind {
     Null,
 }
 
-/// The key of an entry, and where it stands, quotes included.
+/// The key of an entry and its place, quotes included.
 #[derive(Debug, Drop)]
 pub struct Key {
     pub name: RcStr,

@@ -1,4 +1,5 @@
-// Values, and the texts that are one. Each object and each array goes one step deeper, up to `MAX_DEPTH`.
+// Values, and texts that are one value. Each object and each array goes one step deeper, up to
+// `MAX_DEPTH`.
 ghost use Rattle.std.specs.Prelude.{◌≡◌, ◌+◌, ◌-◌, ◌<◌, true, false, length, IsTrue, if◌then◌else◌, OnOk, IfOk, IfErr};
 ghost use Rattle.cedar_json.specs.Cursors.{GoesOn, IsFaultWithin};
 ghost use Rattle.cedar_json.specs.Fits.{FitsIn, FormFits, ItemsFit, MembersFit};
@@ -28,7 +29,7 @@ pub fn value_alone(alloc: Global, text: &str) -> Result<Value, ReadError>
     }
 }
 
-/// Reads a value, in which so many objects and arrays may stand inside each other.
+/// Reads a value, in which at most `left` objects and arrays may stand inside each other.
 #[cycle(values)]
 pub fn value(cursor: &mut Cursor<'_>, left: usize) -> Result<Value, ReadError>
     ensures on { OnOk result (GoesOn cursor.old cursor.new) }
@@ -122,7 +123,8 @@ fn items(cursor: &mut Cursor<'_>, left: usize) -> Result<Vec<Value>, ReadError>
     Err(cursor.fault(Fault::InArray))
 }
 
-/// Reads the bracket before several parts, and the one behind them if there is no part.
+/// Reads the bracket before several parts, and the closing one if there is no part. Returns whether
+/// there is none.
 pub fn begins_empty(cursor: &mut Cursor<'_>, closing: u8) -> bool
     ensures on { GoesOn cursor.old cursor.new }
     ensures closed { cursor.old.at < length cursor.old.text.now → IsTrue result
@@ -135,7 +137,8 @@ pub fn begins_empty(cursor: &mut Cursor<'_>, closing: u8) -> bool
     cursor.takes(closing)
 }
 
-/// Whether no part follows behind one. Reads the bracket behind the last part, or the comma behind another.
+/// Returns whether no further part follows. Reads the bracket behind the last part, or the comma
+/// before another.
 pub fn ends(cursor: &mut Cursor<'_>, closing: u8, fault: Fault) -> Result<bool, ReadError>
     ensures on { OnOk result (GoesOn cursor.old cursor.new) }
     ensures separates { IfOk result (λ last. Separates cursor.old.text.now cursor.old.at

@@ -1,4 +1,4 @@
-// Operators of two operands.
+// Binary operators: those of two operands.
 use cedar_types::base::{Expr, Loc};
 use std::alloc::{AllocError, Global};
 
@@ -24,7 +24,7 @@ pub enum Binary {
     HasTag,
 }
 
-/// The operator of this key, if it is one of two operands.
+/// Returns the operator of this key, if it is one of two operands.
 pub fn binary_of(key: &str) -> Option<Binary> {
     let operator = match key {
         "==" => Binary::Equal,
@@ -49,7 +49,8 @@ pub fn binary_of(key: &str) -> Option<Binary> {
     Some(operator)
 }
 
-/// The operator on these operands. `!=`, `>` and `>=` negate others, which stand at the same place.
+/// Applies an operator to its operands. `!=`, `>` and `>=` become negations of other operators, at
+/// the place of the whole.
 pub fn apply_binary(
     alloc: Global,
     operator: Binary,
@@ -68,7 +69,7 @@ pub fn apply_binary(
     }
 }
 
-/// The operator, if it is no comparison.
+/// Applies an operator that is not a comparison.
 fn apply_other(
     alloc: Global,
     operator: Binary,

@@ -1,4 +1,4 @@
-// The constraints of a scope.
+// Constraints of a scope.
 use crate::forms::{FormError, FormFault, Object, expected, items_of, text_of};
 use crate::policies::entities::{Slots, entity_type, entity_uid, slot_of};
 use crate::values::Value;
@@ -7,7 +7,7 @@ use cedar_types::base::{
 };
 use std::alloc::Global;
 
-/// Reads the constraint of the principal or of the resource, whose slot this is.
+/// Reads the constraint of the principal or of the resource, whose slot is `own`.
 pub fn entity_constraint(
     alloc: Global,
     slots: &Slots,
@@ -34,7 +34,7 @@ pub fn entity_constraint(
     }
 }
 
-/// Reads a constraint by a type, and perhaps by what an entity is in.
+/// Reads a constraint by entity type, perhaps with an entity or a slot behind `in`.
 fn type_constraint(
     alloc: Global,
     slots: &Slots,
@@ -52,7 +52,7 @@ fn type_constraint(
     Ok(PrincipalOrResourceConstraint::IsIn(named, reference))
 }
 
-/// Reads an entity, or the slot of its variable.
+/// Reads an entity, or the slot `own`.
 fn reference(
     alloc: Global,
     slots: &Slots,
@@ -107,7 +107,7 @@ fn actions(alloc: Global, object: Object<'_>) -> Result<ActionConstraint, FormEr
     Ok(ActionConstraint::In(actions))
 }
 
-/// Reads the id of an action.
+/// Reads the id of an action. A type that is not named `Action` is a fault.
 fn action(alloc: Global, value: &Value) -> Result<EntityUID, FormError> {
     let uid = entity_uid(alloc, value)?;
     if !uid.entity_type.is_action() {

@@ -1,4 +1,4 @@
-// Ids of entities, and what the slots of a template are bound to.
+// Entity ids, and the entities that a link puts in the place of slots.
 use crate::forms::{FormError, FormFault, Object, expected, text_of};
 use crate::names::is_name;
 use crate::values::Value;
@@ -10,7 +10,7 @@ pub fn name_of(alloc: Global, value: &Value) -> Result<Name, FormError> {
     name_at(alloc, text_of(value)?, value.place)
 }
 
-/// The name that stands at this place.
+/// Makes the name `name`, which stands at `place`. A text that is not a name is a fault.
 pub fn name_at(alloc: Global, name: &str, place: Loc) -> Result<Name, FormError> {
     if !is_name(name) {
         return Err(FormError::At(place.start, FormFault::Name));
@@ -28,7 +28,7 @@ pub fn entity_type(alloc: Global, value: &Value) -> Result<EntityType, FormError
     Ok(EntityType::new(name_of(alloc, value)?, Some(value.place)))
 }
 
-/// Reads an id: its type and its eid, perhaps in an object of the one key `__entity`.
+/// Reads an entity id: its type and its eid, perhaps inside an object of the one key `__entity`.
 pub fn entity_uid(alloc: Global, value: &Value) -> Result<EntityUID, FormError> {
     let whole = Object::of(value)?;
     let object = match whole.get("__entity") {
@@ -44,17 +44,18 @@ pub fn entity_uid(alloc: Global, value: &Value) -> Result<EntityUID, FormError> 
     Ok(EntityUID::from_components(alloc, own_type, eid, Some(value.place))?)
 }
 
-/// What the slots of a policy are bound to.
+/// The entities that the slots of a policy are bound to.
 #[derive(Drop)]
 pub enum Slots {
     /// The policy is a template, or has no slots.
     Open,
-    /// It is a link, of which these values stand at this place.
+    /// The policy is a link: the place of its `values`, and its principal and resource, if they are
+    /// bound.
     Bound(Loc, Option<EntityUID>, Option<EntityUID>),
 }
 
 impl Slots {
-    /// Reads what a link binds the slots to.
+    /// Reads the `values` of a link: an entity for each slot that it binds.
     pub fn of_link(alloc: Global, values: &Value) -> Result<Slots, FormError> {
         let object = Object::of(values)?;
         object.allow(&["?principal", "?resource"])?;
@@ -63,7 +64,8 @@ impl Slots {
         Ok(Slots::Bound(values.place, principal, resource))
     }
 
-    /// What a slot is bound to, or the slot of a template. It fails where a link does not bind it.
+    /// Returns the entity that a slot is bound to; for a template, the slot. Fails if a link does
+    /// not bind it.
     pub fn reference(&self, slot: SlotId) -> Result<EntityReference, FormError> {
         let (place, found) = match (self, slot) {
             (Slots::Open, _) => return Ok(EntityReference::Slot),
@@ -91,7 +93,7 @@ fn slot_name(slot: SlotId) -> &'static str {
     }
 }
 
-/// Reads a slot.
+/// Reads the name of a slot.
 pub fn slot_of(value: &Value) -> Result<SlotId, FormError> {
     match text_of(value)? {
         "?principal" => Ok(SlotId::Principal),

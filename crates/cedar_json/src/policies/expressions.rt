@@ -11,18 +11,18 @@ use std::alloc::Global;
 use std::collections::BTreeMap;
 use std::rc::RcStr;
 
-/// How expressions are read at a place.
+/// The state of the reader at an expression.
 #[derive(Clone, Copy)]
 pub struct Depth {
     pub alloc: Global,
-    /// How many steps deeper reading may go.
+    /// The number of steps that the reader may go deeper.
     pub left: usize,
     /// Whether the expression stands in the tree twice.
     pub is_copied: bool,
 }
 
 impl Depth {
-    /// One step deeper, which fails at this place where no step is left.
+    /// Goes one step deeper. If no step is left, the fault stands at `place`.
     fn deeper(self, place: Loc) -> Result<Depth, FormError>
         ensures { IfOk result (λ d. d.left + 1 ≡ self.left) }
     {
@@ -32,7 +32,7 @@ impl Depth {
         }
     }
 
-    /// The same where the expression stands in the tree twice, if it does.
+    /// Marks the expression as one that stands in the tree twice, if `is_copied` says so.
     fn copied(self, is_copied: bool) -> Depth
         ensures { result.left ≡ self.left }
     {
@@ -90,7 +90,7 @@ fn fields(
     Ok(read)
 }
 
-/// Reads an operator: its operands, and what else it has.
+/// Reads an operator: its operands, and its other parts.
 #[cycle(expressions)]
 fn operation(
     slots: &Slots,

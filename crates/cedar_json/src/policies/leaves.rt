@@ -1,4 +1,4 @@
-// Expressions without operands.
+// Leaves: expressions without operands.
 use crate::forms::{FormError, FormFault, Object};
 use crate::policies::entities::{Slots, name_of, slot_of};
 use crate::policies::literals::{VALUE_STEPS, literal};
@@ -7,7 +7,7 @@ use crate::values::{Key, MAX_DEPTH, Value};
 use cedar_types::base::{EntityReference, Expr, Literal};
 use std::alloc::Global;
 
-/// The one entry that an object has.
+/// Returns the only entry of an object. Another number of entries is a fault.
 pub fn only_entry(object: Object<'_>) -> Result<&(Key, Value), FormError> {
     match object.entries {
         [only] => Ok(only),
@@ -26,7 +26,7 @@ pub fn leaf(alloc: Global, slots: &Slots, key: &Key, part: &Value) -> Result<Exp
     }
 }
 
-/// Reads a slot: in a link what it is bound to.
+/// Reads a slot: in a link, the entity that it is bound to.
 fn slot(slots: &Slots, value: &Value) -> Result<Expr, FormError> {
     let id = slot_of(value)?;
     match slots.reference(id)? {
@@ -35,7 +35,7 @@ fn slot(slots: &Slots, value: &Value) -> Result<Expr, FormError> {
     }
 }
 
-/// Reads a value that is not known yet.
+/// Reads an unknown: a value that is not known yet.
 fn unknown(alloc: Global, value: &Value) -> Result<Expr, FormError> {
     let object = Object::of(value)?;
     object.allow(&["name"])?;

@@ -1,4 +1,5 @@
-// Literals, and values of sets, records and extension types. Each call goes one step deeper, up to `MAX_DEPTH`.
+// Literals, and values of sets, records and extension types. Each call goes one step deeper, up to
+// `MAX_DEPTH`.
 use crate::forms::{FormError, FormFault, Object, items_of};
 use crate::policies::entities::{entity_uid, name_of};
 use crate::values::{Key, Value, ValueKind};
@@ -6,7 +7,7 @@ use cedar_types::base::{Expr, Literal};
 use std::alloc::Global;
 use std::collections::BTreeMap;
 
-/// How many steps of this reading an object or a list has at most.
+/// The highest number of steps that reading one object or one list takes.
 pub const VALUE_STEPS: usize = 3;
 
 /// Reads a value.
@@ -60,7 +61,8 @@ fn object(
     record(alloc, object.entries, left)
 }
 
-/// Reads the call of the function that makes a value of an extension type, on one value as `arg`, or on each of `args`.
+/// Reads an extension value as the call of its function, on the one value of `arg` or on each of
+/// `args`.
 #[cycle(values_of_policies)]
 fn extension_value(alloc: Global, call: Object<'_>, left: usize) -> Result<Expr, FormError> {
     let Some(left) = left.checked_sub(1) else {

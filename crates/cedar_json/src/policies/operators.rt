@@ -1,4 +1,4 @@
-// Operators, and what they are on operands that were read.
+// Operators of expressions, and their trees on operands that were read.
 use crate::forms::{FormError, FormFault, Object, expected, text_of};
 use crate::policies::binaries::{Binary, apply_binary, binary_of};
 use crate::policies::entities::entity_type;
@@ -7,7 +7,7 @@ use crate::values::{Value, ValueKind};
 use cedar_types::base::{AttrChain, EntityType, Expr, Loc, Var};
 use std::alloc::Global;
 
-/// How many attributes may stand behind `has`.
+/// The number of attributes that may stand behind `has`.
 const MAX_ATTRIBUTES: usize = 800;
 
 /// An operator.
@@ -24,7 +24,7 @@ pub enum Operator {
     Binary(Binary),
 }
 
-/// The operator of this key, if it is one.
+/// Returns the operator of this key, if the key names one.
 pub fn operator_of(key: &str) -> Option<Operator> {
     match key {
         "!" => Some(Operator::Not),
@@ -40,7 +40,7 @@ pub fn operator_of(key: &str) -> Option<Operator> {
 }
 
 impl Operator {
-    /// The keys of an object with its operands.
+    /// The keys of an object that holds the operands.
     pub fn keys(self) -> &'static [&'static str] {
         match self {
             Operator::Not | Operator::Negate | Operator::IsEmpty => &["arg"],
@@ -52,7 +52,7 @@ impl Operator {
         }
     }
 
-    /// The keys of the operands that this object has.
+    /// The keys of those operands that this object has.
     pub fn operand_keys(self, object: Object<'_>) -> &'static [&'static str] {
         match self {
             Operator::Not | Operator::Negate | Operator::IsEmpty => &["arg"],
@@ -64,13 +64,13 @@ impl Operator {
         }
     }
 
-    /// Whether the tree has the first operand twice: in `a is T in b`.
+    /// Returns whether the tree has the first operand twice: it does for `a is T in b`.
     pub fn is_doubled(self, object: Object<'_>) -> bool {
         self == Operator::Is && object.given("in").is_some()
     }
 }
 
-/// The operator of this object on its operands.
+/// Applies the operator of this object to its operands.
 pub fn apply(
     alloc: Global,
     operator: Operator,
@@ -101,7 +101,7 @@ pub fn apply(
     }
 }
 
-/// The last operand, which is taken away.
+/// Takes the last operand away and returns it.
 fn take(operands: &mut Vec<Expr>, object: Object<'_>) -> Result<Expr, FormError> {
     match operands.pop() {
         Some(operand) => Ok(operand),
@@ -109,7 +109,7 @@ fn take(operands: &mut Vec<Expr>, object: Object<'_>) -> Result<Expr, FormError>
     }
 }
 
-/// `operand is T`, or `operand is T in last`, which are two tests that stand at the same place.
+/// Builds `operand is T`, or `operand is T in last` as two tests at one place.
 fn is(
     alloc: Global,
     object: Object<'_>,
@@ -137,7 +137,7 @@ fn is_in(
     Ok(Expr::and(alloc, is, is_in)?)
 }
 
-/// `operand has attr`, where `attr` is an attribute or a list of them, one after another.
+/// Builds `operand has attr`. `attr` is one attribute or a list of them, one after another.
 fn has(alloc: Global, operand: Expr, attr: &Value) -> Result<Expr, FormError> {
     let ValueKind::Array(attributes) = &attr.kind else {
         return Ok(Expr::has_attr(alloc, operand, text_of(attr)?)?);

@@ -1,4 +1,5 @@
-// Where the policies of a text stand. The text is read once for it, a policy at a time, and no tree of it is kept.
+// The outline of a text: the bytes at which its policies begin. The reader walks the text once, one
+// policy at a time, and keeps no tree.
 use crate::cursor::Cursor;
 use crate::faults::{Fault, ReadError};
 use crate::objects::Entries;
@@ -6,10 +7,12 @@ use crate::parts::end;
 use crate::values::{Key, MAX_DEPTH};
 use crate::whole::{begins_empty, ends, value};
 
-/// How many objects and arrays may stand inside each other in an entry or an item of the text.
+/// The number of objects and arrays that may stand inside each other in an entry or an item of the
+/// text.
 pub const ENTRY_DEPTH: usize = MAX_DEPTH - 1;
 
-/// How many may in an entry or an item of one of these.
+/// The number of objects and arrays that may stand inside each other in an entry or an item of a
+/// part of a policy set.
 pub const INNER_DEPTH: usize = MAX_DEPTH - 2;
 
 /// Values by their keys, each with the byte at which it begins.
@@ -18,9 +21,9 @@ pub type Places = Vec<(Key, usize)>;
 /// The entries and the items of a text, and those of the parts of a policy set.
 #[derive(Drop)]
 pub struct Outline {
-    /// The entries of the text, where it is an object.
+    /// The entries of the text, if it is an object.
     pub entries: Places,
-    /// The items of the text, where it is an array.
+    /// The items of the text, if it is an array.
     pub items: Vec<usize>,
     /// The entries of `staticPolicies`.
     pub fixed: Places,
@@ -31,7 +34,8 @@ pub struct Outline {
 }
 
 impl Outline {
-    /// That of the text of a cursor, an array or an object, which comes next; or the first fault of the text.
+    /// Reads the outline of the array or the object that comes next, or the first fault of the
+    /// text.
     pub fn read(cursor: &mut Cursor<'_>) -> Result<Outline, ReadError> {
         let alloc = cursor.alloc;
         let mut outline = Outline {
@@ -69,7 +73,8 @@ impl Outline {
         Err(cursor.fault(Fault::InObject))
     }
 
-    /// Reads the value of an entry of the text. Of the parts of a policy set it keeps where what is in them stands.
+    /// Reads the value of an entry of the text. For a part of a policy set it keeps the bytes at
+    /// which the members begin.
     fn read_entry(&mut self, cursor: &mut Cursor<'_>, key: &str) -> Result<(), ReadError> {
         match (key, cursor.peek()) {
             ("staticPolicies", Some(b'{')) => self.fixed = places(cursor, INNER_DEPTH)?,
@@ -81,8 +86,8 @@ impl Outline {
     }
 }
 
-/// Reads an object: its keys, and where their values begin, in each of which so many objects and arrays may stand inside each
-/// other.
+/// Reads an object: its keys, and the bytes at which their values begin. In each value, at most
+/// `left` objects and arrays may stand inside each other.
 fn places(cursor: &mut Cursor<'_>, left: usize) -> Result<Places, ReadError> {
     let mut keys = Entries::new(cursor.alloc);
     let mut read = Vec::new(cursor.alloc);
@@ -101,7 +106,8 @@ fn places(cursor: &mut Cursor<'_>, left: usize) -> Result<Places, ReadError> {
     Err(cursor.fault(Fault::InObject))
 }
 
-/// Reads an array: where its items begin, in each of which so many objects and arrays may stand inside each other.
+/// Reads an array: the bytes at which its items begin. In each item, at most `left` objects and
+/// arrays may stand inside each other.
 fn items(cursor: &mut Cursor<'_>, left: usize) -> Result<Vec<usize>, ReadError> {
     let mut read = Vec::new(cursor.alloc);
     if begins_empty(cursor, b']') {
@@ -118,7 +124,8 @@ fn items(cursor: &mut Cursor<'_>, left: usize) -> Result<Vec<usize>, ReadError> 
     Err(cursor.fault(Fault::InArray))
 }
 
-/// Passes a value. Of one that is nested too deep the brackets alone are read, because that is the fault of one policy.
+/// Passes a value. If it is nested too deep, only its brackets are read, because this fault belongs
+/// to one policy.
 fn pass_value(cursor: &mut Cursor<'_>, left: usize) -> Result<(), ReadError> {
     let mut ahead = Cursor {
         alloc: cursor.alloc,
@@ -142,7 +149,7 @@ fn pass_value(cursor: &mut Cursor<'_>, left: usize) -> Result<(), ReadError> {
     }
 }
 
-/// Where a character of JSON stands.
+/// The position of a character: outside of quotes, inside, or behind a backslash.
 #[derive(Clone, Copy, PartialEq, Eq)]
 enum Quotes {
     Outside,
@@ -150,7 +157,7 @@ enum Quotes {
     BehindBackslash,
 }
 
-/// How many bytes of a text stand up to the bracket that closes the first one, if there is one.
+/// Returns the number of bytes up to the bracket that closes the first one, if there is one.
 fn size_in_brackets(text: &str) -> Option<usize> {
     let mut open = 0usize;
     let mut quotes = Quotes::Outside;
@@ -166,7 +173,7 @@ fn size_in_brackets(text: &str) -> Option<usize> {
     None
 }
 
-/// How many brackets are open behind a character outside of quotes.
+/// Returns the number of open brackets behind a character outside of quotes.
 fn open_behind(open: usize, c: char) -> usize {
     match c {
         '{' | '[' => open.saturating_add(1),

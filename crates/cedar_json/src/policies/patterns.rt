@@ -4,7 +4,7 @@ use crate::values::{Value, ValueKind};
 use cedar_types::base::PatternElem;
 use std::alloc::Global;
 
-/// Reads a pattern: a list, of which each part is `Wildcard` or has a text behind `Literal`.
+/// Reads a pattern: a list in which each part is `Wildcard`, or an object with a text at `Literal`.
 pub fn pattern(alloc: Global, value: &Value) -> Result<Vec<PatternElem>, FormError> {
     let mut parts = Vec::new(alloc);
     for item in items_of(value)? {
@@ -19,7 +19,7 @@ pub fn pattern(alloc: Global, value: &Value) -> Result<Vec<PatternElem>, FormErr
     Ok(parts)
 }
 
-/// Adds the characters of a text behind `Literal`.
+/// Adds the characters of the text at `Literal`.
 fn push_text(parts: &mut Vec<PatternElem>, item: &Value) -> Result<(), FormError> {
     let object = Object::of(item)?;
     object.allow(&["Literal"])?;

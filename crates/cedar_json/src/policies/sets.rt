@@ -1,4 +1,4 @@
-// The policies of a text, one after another.
+// Policies of a text, read one after another.
 use crate::cursor::Cursor;
 use crate::forms::{FormError, FormFault, Object, annotation_of, expected, items_of, text_of};
 use crate::parts::value_at;
@@ -12,23 +12,24 @@ use std::alloc::{AllocError, Global};
 use std::collections::BTreeMap;
 use std::rc::RcStr;
 
-/// The policies of a text, one after another: one policy, a list of policies, an object of policies by their ids, or a policy
-/// set with `staticPolicies`, `templates` and `templateLinks`. Each is read when it comes, and its tree is dropped then.
+/// The policies of a text: one policy, a list of policies, an object of policies by their ids, or a
+/// policy set with `staticPolicies`, `templates` and `templateLinks`. The reader reads each policy
+/// when it is asked for, and then drops its tree.
 #[derive(Drop)]
 pub struct Policies<'a> {
     alloc: Global,
     text: &'a str,
-    /// At which byte the value of the text begins.
+    /// The byte at which the value of the text begins.
     start: usize,
     kind: Kind,
     outline: Outline,
-    /// At which entry of `templates` each is.
+    /// The number of the entry of `templates` for each key.
     templates: BTreeMap<RcStr, usize>,
-    /// How many policies were read.
+    /// The number of policies that were read.
     count: usize,
 }
 
-/// What the policies of a text are.
+/// The form of the policies of a text.
 #[derive(Clone, Copy, PartialEq, Eq, Debug)]
 enum Kind {
     One,
@@ -38,8 +39,8 @@ enum Kind {
 }
 
 impl<'a> Policies<'a> {
-    /// The policies of this text. It fails where the text is no JSON, and where it has none of the forms. A policy that is nested
-    /// too deep is left to `next_policy`.
+    /// Begins to read the policies of a text. Fails if the text is not JSON, or has none of the
+    /// forms. A policy that is nested too deep is a fault of `next_policy`.
     pub fn new(alloc: Global, text: &'a str) -> Result<Policies<'a>, FormError> {
         let mut cursor = Cursor::new(alloc, text)?;
         cursor.pass_blanks();
@@ -65,7 +66,7 @@ impl<'a> Policies<'a> {
         Ok(policies)
     }
 
-    /// Fails where a part of a set has another form.
+    /// Fails if a part of a set has another form.
     fn check_set(&self) -> Result<(), FormError> {
         for (key, _) in &self.outline.entries {
             if !PARTS.iter().any(|part| *part == key.name.as_str()) {
@@ -83,7 +84,7 @@ impl<'a> Policies<'a> {
         Ok(())
     }
 
-    /// The part of this key of a set, if it is there and does not begin with this bracket.
+    /// Returns the part of a set at this key, if it is there and does not begin with this bracket.
     fn part_of_other_form(&self, key: &str, bracket: u8) -> Result<Option<Value>, FormError> {
         for (own, start) in &self.outline.entries {
             if own.name.as_str() == key && byte_at(self.text, *start) != Some(bracket) {
@@ -93,11 +94,12 @@ impl<'a> Policies<'a> {
         Ok(None)
     }
 
-    /// The next policy, or its first fault; `None` where all were read. A policy has its own part of the text as its place, and
-    /// a link that of the link. A link is its template with its slots bound.
+    /// Reads the next policy, or its first fault; `None` after the last policy. The place of a
+    /// policy is its own part of the text; the place of a link is that of the link. A link is read
+    /// as its template with its slots bound.
     ///
-    /// The id of a policy is its key, that of a link its `newId`; of others it is what their annotation `id` says, or `policy`
-    /// and how many come before it.
+    /// The id of a policy is its key, and the id of a link is its `newId`. Any other policy has the
+    /// text of its annotation `id`, or else `policy` and the number of policies before it.
     pub fn next_policy(&mut self) -> Option<Result<ReadPolicy, FormError>> {
         let number = self.count;
         self.count = number.saturating_add(1);
@@ -108,7 +110,7 @@ impl<'a> Policies<'a> {
         }
     }
 
-    /// The policy of this number, if there is one.
+    /// Reads the policy of this number, if there is one.
     fn policy_at(&self, number: usize) -> Result<Option<ReadPolicy>, FormError> {
         match self.kind {
             Kind::One if number == 0 => {
@@ -122,7 +124,7 @@ impl<'a> Policies<'a> {
         }
     }
 
-    /// The policy of this number of a list.
+    /// Reads the policy of this number of a list.
     fn listed_at(&self, number: usize) -> Result<Option<ReadPolicy>, FormError> {
         let Some(start) = self.outline.items.get(number) else {
             return Ok(None);
@@ -131,7 +133,7 @@ impl<'a> Policies<'a> {
         Ok(Some(self.unnamed(&body, number)?))
     }
 
-    /// The policy of this number of a set: static policies come first, and then templates and links.
+    /// Reads the policy of this number of a set: static policies first, then templates, then links.
     fn policy_of_set(&self, number: usize) -> Result<Option<ReadPolicy>, FormError> {
         let fixed = self.outline.fixed.as_slice();
         let Some(behind_fixed) = number.checked_sub(fixed.len()) else {
@@ -148,7 +150,7 @@ impl<'a> Policies<'a> {
         Ok(Some(self.link(&link)?))
     }
 
-    /// The policy at this entry, whose key is its id.
+    /// Reads the policy of an entry, whose key is its id.
     fn named_at(
         &self,
         entries: &[(Key, usize)],
@@ -167,13 +169,13 @@ impl<'a> Policies<'a> {
         Ok(Some(policy(self.alloc, &Slots::Open, id, &body, place)?))
     }
 
-    /// A policy without a key.
+    /// Reads a policy without a key.
     fn unnamed(&self, body: &Value, number: usize) -> Result<ReadPolicy, FormError> {
         let id = policy_id(self.alloc, annotated_id(body)?, number)?;
         policy(self.alloc, &Slots::Open, id, body, body.place)
     }
 
-    /// A link of one of the templates.
+    /// Reads a link: the template that it names, with its slots bound.
     fn link(&self, link: &Value) -> Result<ReadPolicy, FormError> {
         let object = Object::of(link)?;
         object.allow(&["templateId", "newId", "values"])?;
@@ -190,7 +192,8 @@ impl<'a> Policies<'a> {
         policy(self.alloc, &slots, id, &body, link.place)
     }
 
-    /// The value that begins at a byte, in which so many objects and arrays may stand inside each other.
+    /// Reads the value that begins at `start`, in which at most `left` objects and arrays may stand
+    /// inside each other.
     fn read_at(&self, start: usize, left: usize) -> Result<Value, FormError> {
         Ok(value_at(self.alloc, self.text, start, left)?)
     }
@@ -199,7 +202,7 @@ impl<'a> Policies<'a> {
 /// The keys of a policy set.
 const PARTS: [&str; 3] = ["staticPolicies", "templates", "templateLinks"];
 
-/// What the policies of a text are, whose value begins at a byte.
+/// Returns the form of the policies of a text, whose value begins at `start`.
 fn kind_of(text: &str, start: usize, outline: &Outline) -> Kind {
     if byte_at(text, start) == Some(b'[') {
         Kind::List
@@ -212,7 +215,7 @@ fn kind_of(text: &str, start: usize, outline: &Outline) -> Kind {
     }
 }
 
-/// At which of these entries each key is.
+/// Returns the number of the entry for each key.
 fn numbers_of(alloc: Global, entries: &Places) -> Result<BTreeMap<RcStr, usize>, AllocError> {
     let mut numbers = BTreeMap::new(alloc);
     for (at, (key, _)) in entries.iter().enumerate() {
@@ -225,7 +228,7 @@ fn byte_at(text: &str, at: usize) -> Option<u8> {
     text.as_bytes().get(at).copied()
 }
 
-/// Whether the text has an entry of this key.
+/// Returns whether the text has an entry of this key.
 fn has_key(outline: &Outline, key: &str) -> bool {
     outline
         .entries
@@ -233,7 +236,7 @@ fn has_key(outline: &Outline, key: &str) -> bool {
         .any(|(own, _)| own.name.as_str() == key)
 }
 
-/// What the annotation `id` of a policy says, if it is there.
+/// Returns the annotation `id` of a policy, if it is there.
 fn annotated_id(body: &Value) -> Result<Option<&str>, FormError> {
     let Some(annotations) = Object::of(body)?.given("annotations") else {
         return Ok(None);

@@ -1,4 +1,4 @@
-// One policy.
+// One policy: its effect, its scope and its conditions.
 use crate::forms::{FormError, FormFault, Object, check_annotations, expected, items_of, text_of};
 use crate::policies::constraints::{action_constraint, entity_constraint};
 use crate::policies::entities::Slots;
@@ -9,7 +9,7 @@ use cedar_types::base::{
 };
 use std::alloc::Global;
 
-/// A policy that was read: what it does, and what it asks.
+/// A policy that was read: its effect, and its template.
 #[derive(Debug, Drop)]
 pub struct ReadPolicy {
     pub effect: Effect,
@@ -56,7 +56,7 @@ pub fn policy(
     Ok(ReadPolicy { effect, template })
 }
 
-/// Reads what a policy does.
+/// Reads the effect of a policy.
 fn effect(value: &Value) -> Result<Effect, FormError> {
     match text_of(value)? {
         "permit" => Ok(Effect::Permit),
@@ -87,7 +87,8 @@ fn conditions(
     Ok(whole)
 }
 
-/// Both conditions, from this byte to the end of the next; the next alone where there is none before it.
+/// Joins both conditions, from `start` to the end of the next one. Without a condition before, it
+/// is the next one alone.
 fn with_next(
     alloc: Global,
     start: usize,
@@ -105,7 +106,7 @@ fn with_next(
     })))
 }
 
-/// Reads a condition. What `unless` says is negated.
+/// Reads a condition. The body of `unless` is negated.
 fn condition(alloc: Global, slots: &Slots, value: &Value) -> Result<Expr, FormError> {
     let object = Object::of(value)?;
     object.allow(&["kind", "body"])?;

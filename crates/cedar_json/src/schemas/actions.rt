@@ -1,4 +1,4 @@
-// Declarations of actions.
+// Actions: their declarations.
 use crate::forms::{FormError, FormFault, Object, check_annotations, items_of, text_of};
 use crate::schemas::declared::Declared;
 use crate::schemas::meanings::{NamedType, Spaces, name_of, names_in, put_entity_types};
@@ -24,7 +24,7 @@ pub fn put_action(
     out.put(";\n")
 }
 
-/// Writes what an action is in, and what it applies to.
+/// Writes the parents of an action, and its application.
 fn put_body(
     out: &mut Translation,
     declared: &Declared<'_>,
@@ -54,7 +54,7 @@ fn put_body(
     }
 }
 
-/// Fails where an action has attributes.
+/// Fails if an action has attributes.
 fn check_no_attributes(body: Object<'_>) -> Result<(), FormError> {
     let Some(attributes) = body.given("attributes") else {
         return Ok(());
@@ -65,7 +65,7 @@ fn check_no_attributes(body: Object<'_>) -> Result<(), FormError> {
     Err(FormError::At(attributes.place.start, FormFault::ActionAttributes))
 }
 
-/// Writes an action in which another is. Where it has a fault it fails, and nothing is written.
+/// Writes a parent of an action. If the parent has a fault, the call fails and writes nothing.
 fn put_parent(out: &mut Translation, parent: &Value) -> Result<(), FormError> {
     let parent = Object::of(parent)?;
     out.allow(parent, &["id", "type"])?;
@@ -80,7 +80,8 @@ fn put_parent(out: &mut Translation, parent: &Value) -> Result<(), FormError> {
     out.put(", ")
 }
 
-/// Writes what an action applies to: nothing, where no principal type or no resource type is left that has no fault.
+/// Writes the application of an action: nothing, if no principal type or no resource type without a
+/// fault is left.
 fn put_application(
     out: &mut Translation,
     declared: &Declared<'_>,
@@ -103,7 +104,7 @@ fn put_application(
     out.put_from(body.place, " }")
 }
 
-/// The names in the list at this key. A fault is noted, and that the key is missing.
+/// Returns the names in the list at this key. A fault is noted, also the fault of a missing key.
 fn names_at<'a>(
     alloc: Global,
     out: &mut Translation,

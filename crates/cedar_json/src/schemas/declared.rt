@@ -1,4 +1,4 @@
-// The names that a schema declares.
+// Declared names of a schema.
 use crate::forms::{FormError, FormFault, Object};
 use crate::names::{is_name, is_word};
 use crate::translations::Translation;
@@ -6,11 +6,11 @@ use crate::values::{Key, Value};
 use std::alloc::{AllocError, Global};
 use std::collections::{BTreeMap, BTreeSet};
 
-/// Which of the names that a schema declares were read.
+/// The completeness of the names that were read from a schema.
 #[derive(Clone, Copy, PartialEq, Eq, Debug)]
 pub enum Names {
     All,
-    /// Some may be missing, because a fault stands where they are declared.
+    /// Some names may be missing, because a fault stands at their declaration.
     Some,
 }
 
@@ -24,7 +24,8 @@ pub struct Declared<'a> {
 }
 
 impl<'a> Declared<'a> {
-    /// What the namespaces of a schema declare, of which no fault was noted so far. Those are that are met.
+    /// Reads the names that the namespaces declare, and notes their faults. Requires that no fault
+    /// was noted before.
     pub fn of(
         alloc: Global,
         out: &mut Translation,
@@ -48,7 +49,7 @@ impl<'a> Declared<'a> {
         Ok(declared)
     }
 
-    /// Adds what a namespace declares.
+    /// Adds the names that a namespace declares.
     fn add(
         &mut self,
         out: &mut Translation,
@@ -76,7 +77,8 @@ impl<'a> Declared<'a> {
     }
 }
 
-/// Fails where the key of a namespace is no name. The empty one is outside of namespaces.
+/// Fails if the key of a namespace is not a name. The empty key stands for declarations outside of
+/// namespaces.
 fn check_namespace(key: &Key) -> Result<(), FormError> {
     let name = key.name.as_str();
     if name.is_empty() || is_name(name) {
@@ -85,7 +87,7 @@ fn check_namespace(key: &Key) -> Result<(), FormError> {
     Err(FormError::At(key.place.start, FormFault::Name))
 }
 
-/// The whole name of what a key declares. It has to be a word.
+/// Returns the whole name of a declaration, whose key has to be a word.
 fn declared_name(alloc: Global, namespace: &str, key: &Key) -> Result<String, FormError> {
     let word = key.name.as_str();
     if !is_word(word) {
@@ -94,7 +96,8 @@ fn declared_name(alloc: Global, namespace: &str, key: &Key) -> Result<String, Fo
     Ok(qualify(alloc, namespace, word)?)
 }
 
-/// The name of this word in a namespace. That of no name is outside of namespaces.
+/// Returns the name of a word in a namespace. The empty namespace stands for declarations outside
+/// of namespaces.
 pub fn qualify(alloc: Global, namespace: &str, word: &str) -> Result<String, AllocError> {
     if namespace.is_empty() {
         return String::from_str(alloc, word);

@@ -1,4 +1,4 @@
-// Declarations of entity types.
+// Entity types: their declarations.
 use crate::forms::{FormError, Object, check_annotations, items_of, text_of};
 use crate::schemas::declared::Declared;
 use crate::schemas::meanings::{Spaces, names_in, put_entity_types};
@@ -30,7 +30,7 @@ pub fn put_entity_type(
     out.put(";\n")
 }
 
-/// Writes the ids of an enumerated type: the empty text for what is none.
+/// Writes the ids of an enumerated type. An item that is no text becomes the empty text.
 fn put_ids(out: &mut Translation, ids: &Value) -> Result<(), FormError> {
     let Some(items) = out.noted(items_of(ids))? else {
         return Ok(());
@@ -44,7 +44,7 @@ fn put_ids(out: &mut Translation, ids: &Value) -> Result<(), FormError> {
     out.put("]")
 }
 
-/// Writes what a type is in, its attributes and its tags, each of which may be missing.
+/// Writes the parents, the attributes and the tags of a type, each of which may be missing.
 fn put_standard(
     out: &mut Translation,
     declared: &Declared<'_>,

@@ -1,4 +1,4 @@
-// What the names of types mean.
+// Meanings of the names of types.
 use crate::forms::{FormError, FormFault, items_of, text_of};
 use crate::names::{is_extension_type, is_name};
 use crate::schemas::declared::{Declared, qualify};
@@ -8,26 +8,26 @@ use cedar_types::base::Loc;
 use std::alloc::{AllocError, Global};
 use std::rc::RcStr;
 
-/// What a name is said to be of.
+/// The kind of type that a name has to name.
 #[derive(Clone, Copy, PartialEq, Eq, Debug)]
 pub enum NameOf {
     EntityType,
     CommonType,
-    /// A common type, or where there is none an entity type.
+    /// A common type, or else an entity type.
     Either,
 }
 
-/// What a name means, by its whole name.
+/// The meaning of a name, by its whole name.
 #[derive(PartialEq, Eq, Debug, Drop)]
 pub enum Meaning {
     EntityType(String),
     CommonType(String),
-    /// It is not declared.
+    /// The name is not declared.
     Nothing,
 }
 
-/// Where a part of a schema is written, and where it was declared: the body of a common type may be written in another
-/// namespace.
+/// The namespaces of a part of a schema: where it is written, and where it was declared, because
+/// the body of a common type may be written in another namespace.
 #[derive(Drop)]
 pub struct Spaces {
     pub written: RcStr,
@@ -35,7 +35,7 @@ pub struct Spaces {
 }
 
 impl Spaces {
-    /// Of a part that is written in the namespace in which it was declared.
+    /// Makes the namespaces of a part that is written in the namespace of its declaration.
     pub fn of(namespace: &RcStr) -> Result<Spaces, AllocError> {
         Ok(Spaces {
             written: namespace.clone()?,
@@ -44,7 +44,8 @@ impl Spaces {
     }
 }
 
-/// What a name means in a namespace: without a path what is declared there, else what has this very name.
+/// Returns the meaning of a name in a namespace: a name without a path means first the declaration
+/// of this namespace, and otherwise the declaration of exactly this name.
 pub fn meaning_of(
     declared: &Declared<'_>,
     namespace: &str,
@@ -61,7 +62,7 @@ pub fn meaning_of(
     Ok(declared_as(declared, String::from_str(declared.alloc, name)?, of))
 }
 
-/// What is declared by this whole name.
+/// Returns the declaration of this whole name.
 fn declared_as(declared: &Declared<'_>, name: String, of: NameOf) -> Meaning {
     if of != NameOf::EntityType && declared.common_types.contains_key(&name) {
         return Meaning::CommonType(name);
@@ -72,7 +73,7 @@ fn declared_as(declared: &Declared<'_>, name: String, of: NameOf) -> Meaning {
     Meaning::Nothing
 }
 
-/// Writes the name of a type, so that Cedar's syntax gives it the meaning that it has in JSON.
+/// Writes the name of a type, so that it has the same meaning in Cedar's syntax as in JSON.
 pub fn put_type_name(
     out: &mut Translation,
     declared: &Declared<'_>,
@@ -97,8 +98,9 @@ pub fn put_type_name(
     out.put_from(value.place, whole)
 }
 
-/// Whether a name that nothing declares would have a meaning in Cedar's own syntax, where it means this. Other names are left to
-/// what reads the text, which tells all that nothing declares at once.
+/// Returns whether a name that is not declared would have a meaning in Cedar's own syntax. All
+/// other undeclared names are left to the reader of the written text, because it reports them
+/// together.
 fn has_other_meaning(name: &str, of: NameOf, written: &Meaning) -> bool {
     match of {
         NameOf::EntityType => *written != Meaning::Nothing || is_of_language(name),
@@ -107,7 +109,7 @@ fn has_other_meaning(name: &str, of: NameOf, written: &Meaning) -> bool {
     }
 }
 
-/// Whether a name is one of Cedar's own syntax that is no entity type.
+/// Returns whether a name belongs to Cedar's own syntax and is not an entity type.
 fn is_of_language(name: &str) -> bool {
     name.starts_with("__cedar::")
         || is_extension_type(name)
@@ -120,7 +122,7 @@ fn is_of_language(name: &str) -> bool {
 /// A name of an entity type, and its place.
 pub type NamedType<'a> = (Loc, &'a str);
 
-/// The names in a list. What is none is noted and left out.
+/// Returns the names in a list. It notes and leaves out each item that is not a name.
 pub fn names_in<'a>(
     alloc: Global,
     out: &mut Translation,
@@ -135,7 +137,7 @@ pub fn names_in<'a>(
     Ok(names)
 }
 
-/// The name that a value has to be.
+/// Returns the name of a value, which has to be one.
 pub fn name_of(value: &Value) -> Result<&str, FormError> {
     let name = text_of(value)?;
     if !is_name(name) {

@@ -1,4 +1,4 @@
-// Namespaces.
+// Namespaces: their declarations.
 use crate::forms::{FormError, Object, check_annotations};
 use crate::schemas::actions::put_action;
 use crate::schemas::declared::Declared;
@@ -9,7 +9,8 @@ use crate::translations::Translation;
 use crate::values::{Key, MAX_DEPTH, Value};
 use std::rc::RcStr;
 
-/// Writes a namespace. That of no name is outside of namespaces. Faults of names that it declares were noted before.
+/// Writes a namespace; that of no name stands outside of namespaces. The caller noted the faults of
+/// its declared names.
 pub fn put_namespace(
     out: &mut Translation,
     declared: &Declared<'_>,

@@ -1,5 +1,6 @@
-// Types. Each call goes one step deeper into the value, up to `MAX_DEPTH`. The faults of a type are noted, and a record without
-// attributes, which may stand anywhere, is written in its place.
+// Types. Each call goes one step deeper into the value, up to `MAX_DEPTH`. The writer notes the
+// faults of a type, and writes a record without attributes in its place, because such a record may
+// stand anywhere.
 use crate::forms::{FormError, FormFault, Object, check_annotations, expected, text_of, truth_of};
 use crate::names::{is_extension_type, is_name, path_of};
 use crate::schemas::declared::Declared;
@@ -39,16 +40,16 @@ pub fn put_type(
     out.put(">")
 }
 
-/// The parts that a type has to have.
+/// The required parts of a type.
 #[derive(Clone, Copy)]
 struct TypeParts<'a> {
     object: Object<'a>,
-    /// The text that says which type it is.
+    /// The text that names the kind of the type.
     named: &'a Value,
 }
 
 impl<'a> TypeParts<'a> {
-    /// Those of a type.
+    /// Reads the required parts of a type.
     fn of(value: &'a Value) -> Result<TypeParts<'a>, FormError> {
         let object = Object::of(value)?;
         let named = object.need("type")?;
@@ -94,7 +95,7 @@ pub fn put_record(
     out.put_from(object.place, "}")
 }
 
-/// Fails where a record may have further attributes.
+/// Fails if a record may have further attributes.
 fn check_closed(object: Object<'_>) -> Result<(), FormError> {
     match object.get("additionalAttributes") {
         Some(value) if truth_of(value)? => {
@@ -104,14 +105,14 @@ fn check_closed(object: Object<'_>) -> Result<(), FormError> {
     }
 }
 
-/// Writes the key of an attribute, and the mark of one that is not required.
+/// Writes the key of an attribute, and a `?` if it is not required.
 fn put_key(out: &mut Translation, key: &Key, value: &Value) -> Result<(), FormError> {
     out.put_quoted(key.place, key.name.as_str())?;
     let is_required = out.noted(is_required(value))?.unwrap_or(true);
     out.put(if is_required { ": " } else { "?: " })
 }
 
-/// Whether an attribute of this type is required.
+/// Returns whether an attribute of this type is required.
 fn is_required(value: &Value) -> Result<bool, FormError> {
     match Object::of(value)?.get("required") {
         Some(required) => truth_of(required),
@@ -134,7 +135,7 @@ fn put_plain_type(
     }
 }
 
-/// Writes the name of a type without parts. Where it has a fault it fails, and nothing is written.
+/// Writes the name of a type without parts. If it has a fault, the call fails and writes nothing.
 fn put_name_of_type(
     out: &mut Translation,
     declared: &Declared<'_>,
@@ -169,7 +170,7 @@ fn put_name_of_type(
     }
 }
 
-/// Writes the name of a common type, or of an extension type where no common type has it.
+/// Writes the name of a common type; if no common type has it, that of an extension type.
 fn put_common_type_name(
     out: &mut Translation,
     declared: &Declared<'_>,
@@ -187,7 +188,7 @@ fn put_common_type_name(
     put_type_name(out, declared, spaces, named, NameOf::CommonType)
 }
 
-/// Writes the extension type of this name, which is none of the primitive types.
+/// Writes the extension type of a name that is not a primitive type.
 fn put_extension(out: &mut Translation, named: &Value) -> Result<(), FormError> {
     let name = text_of(named)?;
     if !is_name(name) {
@@ -200,8 +201,8 @@ fn put_extension(out: &mut Translation, named: &Value) -> Result<(), FormError> 
     out.put(name)
 }
 
-/// Writes the attributes of an entity type, which have to be a record. A common type that is one is written in its place, since
-/// Cedar's syntax has no name there.
+/// Writes the attributes of an entity type, which have to be a record. A common type that is a
+/// record is written out, because Cedar's syntax allows no name there.
 pub fn put_shape(
     out: &mut Translation,
     declared: &Declared<'_>,
@@ -219,7 +220,7 @@ pub fn put_shape(
     put_record(out, declared, &spaces, record, left)
 }
 
-/// The record that a shape is, and the namespace in which it was declared.
+/// Returns the record of a shape, and the namespace in which it was declared.
 fn record_of<'r>(
     declared: &'r Declared<'_>,
     namespace: &RcStr,
@@ -244,7 +245,7 @@ fn record_of<'r>(
     Err(FormError::At(shape.place.start, FormFault::Circular))
 }
 
-/// The whole name of the common type that stands for a shape.
+/// Returns the whole name of the common type that stands for a shape.
 fn common_type(
     declared: &Declared<'_>,
     namespace: &str,

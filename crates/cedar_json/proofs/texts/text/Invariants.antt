@@ -7,7 +7,7 @@ use Rattle.cedar_json.proofs.texts.text.Given as goal
 abbrev pub decreases-pieces : goal.decreases-pieces
 decreases-pieces l = length l.cursor.text.now - l.cursor.at
 
--- What was read says what was added so far, and its last byte is ASCII.
+-- The bytes that were read say the text that was added so far, and the last of them is ASCII.
 abbrev pub invariant-pieces : goal.invariant-pieces
 invariant-pieces l = record {
   same : l.cursor.text.now ≡ l.fn.cursor.text.now;

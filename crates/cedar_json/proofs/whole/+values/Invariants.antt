@@ -19,7 +19,8 @@ decreases-entries l = 3 * l.left
 abbrev pub decreases-items : goal.decreases-items
 decreases-items l = 3 * l.left
 
--- Reading has gone on in the same text, the entries so far stand in what was read, and their keys differ and are known.
+-- Reading has gone on in the same text, the entries so far stand in the bytes that were read, and
+-- their keys differ and are known.
 abbrev pub invariant-entries-loop : goal.invariant-entries-loop
 invariant-entries-loop l = record {
   on : GoesOn l.fn.cursor l.cursor;
