@@ -4,7 +4,7 @@ use Rattle.std.specs.Prelude.{IsPermutation}
 use Rattle.std.specs.List.{list_any}
 use Rattle.std.proofs.lemmas.List.Sorted.{list_any-IsPermutation}
 
--- each test that some element of xs passes, some element of ys passes
+-- if some element of xs passes a test, then some element of ys passes it
 pub record IsAmong {X : Type 0} (xs ys : List X) : Type 0 where
   pub passes : (p : X → Bool) → list_any p xs ≡ true → list_any p ys ≡ true
 

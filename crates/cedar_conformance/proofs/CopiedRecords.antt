@@ -1,4 +1,4 @@
--- A map's entries beside the values by key that they stand for.
+-- Copied records: the entries of a map beside the values by key that they stand for.
 use Rattle.std.proofs.Common.{◌≡◌, List, [], ◌∷◌, ◌++◌, Global, Ordering, Less, Equal, Greater, nat_cmp, refl, ap, ◌∙◌}
 use Rattle.std.proofs.lemmas.Cmp.{nat_list_cmp_total}
 use Rattle.std.specs.Cmp.Lexicographic.{slice_cmp}
@@ -43,7 +43,7 @@ below_middle : (first : Entry) (es : List Entry) (e : Entry) (more : List Entry)
 below_middle first [] e more h = h.0
 below_middle first (x ∷ es) e more h = below_middle first es e more h.1
 
--- a key that is above those before it goes last
+-- a key above all keys before it goes last
 pub put_last : (done : List Entry) (e : Entry) (more : List Entry)
     → IsStrictlySortedBy rc_cmp (keys_of (done ++ e ∷ more)) → put (text_of e.0) (value_of e.1) (entries_of done)
     ≡ entries_of (done ++ e ∷ [])

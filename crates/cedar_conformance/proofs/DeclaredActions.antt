@@ -1,4 +1,4 @@
--- The declared ancestors of an action, where no action is declared twice.
+-- Declared ancestors of an action, if no action is declared twice.
 use Rattle.std.proofs.Common.{◌≡◌, refl, sym, ap, subst, ◌∙◌, Bool, true, false, ◌&&◌, ◌||◌, List, [], ◌∷◌, Some}
 use Rattle.std.proofs.Common.{if◌then◌else◌}
 use Rattle.std.specs.List.{list_any}
@@ -13,7 +13,7 @@ use Rattle.cedar_types.proofs.Schema.Faultless.{faultless}
 use Rattle.cedar_types.proofs.Tests.{found}
 use Rattle.cedar_typing.proofs.Basics.{neither_left, neither_right}
 
--- where no other action has the name of a, none of them is an ancestor of that name
+-- if no other action has the name of a, none of them is a declared ancestor of that name
 named_once : (a : DeclaredAction) (acts : List DeclaredAction) (u v : Uid) → v ≡ a.name → list_any (λ b. uid_eq a.name b.name) acts ≡ false
     → declares_ancestor acts u v ≡ false
 named_once a acts u v e n = go (declares_ancestor acts u v) refl

@@ -1,11 +1,11 @@
--- In which types entities of a type may be.
+-- Declared types: the types in which entities of a type may be.
 use Rattle.std.proofs.Common.{◌≡◌, refl, ap, ◌∙◌, Bool, true, false, ◌&&◌, ◌||◌, cond, List, [], ◌∷◌, Option, Some, None, is_some}
 use Rattle.std.specs.List.{list_any, find}
 use Rattle.cedar_types.specs.Names.{Path, Uid, path_eq}
 use Rattle.cedar_types.specs.Schemas.{DeclaredType, is_among, type_named, type_descendants}
 use Rattle.cedar_conformance.specs.StoreTests.{ancestor_fits}
 
--- something passes where something is found
+-- a search finds an element iff some element passes
 pub found_some : {X : Type 0} (p : X → Bool) (xs : List X) → is_some (find p xs) ≡ list_any p xs
 found_some p [] = refl
 found_some p (x ∷ xs) = at (p x) (found_some p xs)
@@ -19,7 +19,7 @@ none_below : (o : Option DeclaredType) (p : Path) → is_among (type_descendants
 none_below None p = refl
 none_below (Some t) p = refl
 
--- an ancestor fits where its type's declaration has the type as a descendant
+-- an ancestor fits iff its type's declaration has the type as a descendant
 pub fits_by_descendants : (ts : List DeclaredType) (p : Path) (v : Uid)
     → is_among (type_descendants (type_named ts v.entity_type)) p ≡ ancestor_fits ts p v
 fits_by_descendants ts p v =

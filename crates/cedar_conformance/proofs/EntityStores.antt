@@ -1,4 +1,5 @@
--- The store that some entries of a map are: what it has of an id, and what one more entry changes.
+-- Entity stores: the entity that the entries of a map have at an id, and the effect of one more
+-- entry.
 use Rattle.std.proofs.Common.{◌≡◌, refl, sym, ap, ◌∙◌, subst, Bool, true, false, true≢false, ◌||◌, cond, List, [], ◌∷◌, ◌++◌, Option, Some, None}
 use Rattle.std.proofs.Common.{option_map, is_some, if◌then◌else◌}
 use Rattle.std.proofs.lemmas.List.{map_push}
@@ -24,7 +25,7 @@ use Rattle.cedar_conformance.specs.StoreTests.{IsApart}
 use Rattle.cedar_conformance.specs.declared.entities.Entity.{Entity}
 use Rattle.cedar_conformance.proofs.Records.{mapped_some}
 
--- what the entries have of an id
+-- the store has at an id the entity that a lookup in the entries finds
 pub stored_at : (es : List (EntityUID × Entity)) (u : Uid)
     → entity_at (stored_all es) u ≡ option_map entity_of (lookup (λ k. uid_eq u (uid_of k)) es)
 stored_at [] u = refl
@@ -36,7 +37,7 @@ stored_at (e ∷ es) u = at (uid_eq u (uid_of e.0)) (stored_at es u)
     at true h = refl
     at false h = h
 
--- whether they have one, as a map finds it
+-- the store has an entity at an id iff a map finds one
 pub stored_there : (R : EntityUID → Ordering) (u : Uid) → ((k : EntityUID) → R k ≡ uid_cmp u (uid_of k))
     → (es : List (EntityUID × Entity))
     → is_some (entity_at (stored_all es) u) ≡ is_some (lookup (λ k. is_eq (R k)) es)
@@ -44,7 +45,7 @@ stored_there R u h es =
     ap is_some (stored_at es u) ∙ mapped_some entity_of (lookup (λ k. uid_eq u (uid_of k)) es)
     ∙ ap is_some (sym (uid_lookup R u h es))
 
--- an entity that is lent is seen as what it is
+-- a lent entity is viewed as the entity itself
 pub lent : (r : Option (Bor Entity)) → option_map (λ e. entity_of e.now) r ≡ option_map entity_of (option_copied r)
 lent None = refl
 lent (Some e) = refl
@@ -54,7 +55,7 @@ lent (Some e) = refl
 abbrev put : Uid → store.Entity → Uid → Option store.Entity → Option store.Entity
 put k e u o = if uid_eq u k then Some e else o
 
--- it counts where there is none of its id
+-- an entry counts if the store has none of its id
 pub pushed : (s : Store) (k : Uid) (e : store.Entity) (u : Uid) → entity_at s k ≡ None
     → entity_at (s ++ (k, e) ∷ []) u ≡ put k e u (entity_at s u)
 pushed [] k e u h = refl
@@ -72,7 +73,7 @@ pushed (x ∷ s) k e u h = at (uid_eq u x.0) (uid_eq u k) (uid_eq k x.0) refl re
     at true false false i j l m n = refl
     at false c false i j l m n = n m ∙ ap (λ b. if◌then◌else◌ {A = Option store.Entity} b (Some e) (entity_at s u)) j
 
--- else it changes nothing
+-- an entry changes nothing if the store has one of its id
 pub there_already : (s : Store) (k : Uid) (e : store.Entity) (u : Uid) → is_some (entity_at s k) ≡ true
     → entity_at s u ≡ entity_at (s ++ (k, e) ∷ []) u
 there_already [] k e u h = absurd (true≢false (sym h))
@@ -143,7 +144,7 @@ module _ (R : EntityUID → EntityUID → Ordering) (is : (a b : EntityUID) → 
 
 -- ---- entries one after another
 
--- a store that is the same stays so with one more behind it
+-- equal stores stay equal with one more entry behind them
 pub same_pushed : (s t : Store) (x : Uid × store.Entity) → IsSameStore s t → IsSameStore (s ++ x ∷ []) (t ++ x ∷ [])
 same_pushed s t x h u = joined s u ∙ ap (λ o. or_else o) (h u) ∙ sym (joined t u)
   where

@@ -1,4 +1,4 @@
--- A fault that a search finds is there.
+-- Found faults: a fault that a search finds is there.
 use Rattle.std.proofs.Common.{◌≡◌, refl, ap, ◌∙◌, Bool, true, false, not, ◌&&◌, ◌||◌, List, ◌∷◌, Option, Some, None, is_some}
 use Rattle.std.specs.List.{list_any}
 use Rattle.cedar_types.proofs.Tests.{and_both, or_left, or_right}
@@ -24,7 +24,7 @@ is_one us xs u v e h =
     ap (uid_is_among us) (same_id u v e)
     ∙ among_head (uid_of u) xs us h (uid_eq (uid_of u)) (uid_same.itself (uid_of u))
 
--- an ancestor of a type in which the entity's may not be
+-- the fault is there: an ancestor of a type in which the entity's type may not be
 pub ancestor_there : (ts : List DeclaredType) (p : Path) (us xs : List Uid) (u v : EntityUID)
     → placed_uid v ≡ placed_uid u → IsAmong (uid_of u ∷ xs) us → ancestor_fits ts p (uid_of u) ≡ false
     → ancestors_have ts p us (problem.Ancestor v) ≡ true
@@ -32,7 +32,7 @@ ancestor_there ts p us xs u v e h unfit =
     and_both (uid_is_among us (uid_of v)) (not (ancestor_fits ts p (uid_of v))) (is_one us xs u v e h)
     (ap (λ x. not (ancestor_fits ts p x)) (same_id u v e) ∙ ap not unfit)
 
--- an ancestor of an action that is not declared to be one
+-- the fault is there: an ancestor of an action that is not a declared one
 pub undeclared_there : (acts : List DeclaredAction) (own : Uid) (e : Entity) (xs : List Uid) (u v : EntityUID)
     → placed_uid v ≡ placed_uid u → IsAmong (uid_of u ∷ xs) e.ancestors → declares_ancestor acts own (uid_of u) ≡ false
     → action_has acts own e (problem.UndeclaredAncestor v) ≡ true
@@ -45,7 +45,7 @@ denied : (b : Bool) → not b ≡ false → b ≡ true
 denied true h = refl
 denied false h = cc
 
--- a declared ancestor that is not there
+-- the fault is there: a declared ancestor that the action lacks
 pub missing_there : (acts : List DeclaredAction) (own : Uid) (e : Entity) (a : DeclaredAction) (xs : List DeclaredAction)
     (v : EntityUID) → uid_of v ≡ a.name → IsAmong (a ∷ xs) acts → has_its_ancestor own e a ≡ false
     → action_has acts own e (problem.MissingAncestor v) ≡ true
@@ -59,7 +59,7 @@ missing_there acts own e a xs v same h lacks =
     (and_both (uid_eq a.name a.name) (uid_is_among a.descendants own) (uid_same.itself a.name) below))
     (ap (λ x. not (uid_is_among e.ancestors x)) same ∙ ap not gone)
 
--- what is found of an entry is there
+-- a problem that is found in an entry is there
 pub entry_there : (s : Schema) (store : Store) (x : Uid × Entity) (xs : Store) → IsAmong (x ∷ xs) store
     → (o : Option EntityProblem)
     → passes_if_any (entity_has s x.0 (type_named s.types x.0.entity_type) x.1) o ≡ true
@@ -70,7 +70,7 @@ entry_there s store x xs h (Some f) k =
     (among_head x xs store h (entry_has s x.0 f)
     (and_both (uid_eq x.0 x.0) (entity_has s x.0 (type_named s.types x.0.entity_type) x.1 f) (uid_same.itself x.0) k))
 
--- what is found of a declared action is there
+-- a missing declared action that is found is there
 pub action_there : (s : Schema) (store : Store) (a : DeclaredAction) (xs : List DeclaredAction) → IsAmong (a ∷ xs) s.actions
     → passes_if_any (is_there s store a.name) (missing_action (entity_at store a.name)) ≡ true
 action_there s store a xs h = at (entity_at store a.name) refl
@@ -83,7 +83,7 @@ action_there s store a xs h = at (entity_at store a.name) refl
         (ap (λ x. not (is_some x)) e))
     at (Some x) e = refl
 
--- nothing is found of an action that is stored
+-- no missing action is found iff the action is stored
 pub none_of_missing : (o : Option Entity) → finds_none (missing_action o) ≡ is_some o
 none_of_missing None = refl
 none_of_missing (Some x) = refl

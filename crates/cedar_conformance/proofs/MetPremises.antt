@@ -1,4 +1,4 @@
--- All premises together, from the checks of each and back.
+-- Premises together, from the checks of each and back.
 use Rattle.std.proofs.Common.{◌≡◌, ◌↔◌, ◌∙◌, refl, sym, ap, subst, true, false, true≢false, [], None, is_some}
 use Rattle.std.proofs.Common.{Result, Ok, Err, IsOk, IfErr}
 use Rattle.std.specs.BTreeMap.{BTreeMap}
@@ -24,27 +24,27 @@ use Rattle.cedar_conformance.specs.declared.premises.PremiseFault.{PremiseFault}
 use Rattle.cedar_conformance.specs.declared.premises.PremiseFault.TheVariants as fault
 use Rattle.cedar_conformance.specs.declared.requests.Request.{Request}
 
--- ---- what a check answers
+-- ---- the answers of a check
 
--- where it answers a fault, what it decides is not so
+-- if the check answers a fault, the property that it decides does not hold
 pub unmet : {A E P : Type 0} (r : Result A E) (e : E) → r ≡ Err e → IsOk r ↔ P → P → ⊥
 unmet r e is h p = absurd (true≢false (sym (subst (λ x. IsOk x) is (h.1 p))))
 
--- and else it is
+-- if the check answers Ok, the property that it decides holds
 pub met : {A E P : Type 0} (r : Result A E) (x : A) → r ≡ Ok x → IsOk r ↔ P → P
 met r x is h = h.0 (subst (λ y. IsOk y) (sym is) refl)
 
--- and the fault is as each is that it answers
+-- the fault of the answer has each property that all faults of the answer have
 pub fault_of : {A E : Type 0} (P : E → Type 0) (r : Result A E) (e : E) → r ≡ Err e → IfErr r P → P e
 fault_of P r e is h = subst (λ x. IfErr x P) is h
 
--- a fault is answered of what is not so
+-- a property that does not hold is decided by a refusal
 pub refused : {P : Type 0} → (P → ⊥) → (false ≡ true) ↔ P
 refused unfit = (λ ok. absurd (true≢false (sym ok)), λ p. absurd (unfit p))
 
 -- ---- the request and the entities
 
--- a table without functions, which functions that give nothing and compare nothing keep
+-- a table without functions; functions that give nothing and compare nothing keep it
 abbrev no_functions : ExtensionTable
 no_functions = record { functions = []; overloaded_types = [] }
 
@@ -97,7 +97,7 @@ module _ (schema : ValidatorSchema) (request : Request) (entities : Entities) wh
   pub entities_of_data : DataConforms schema request entities → EntitiesConform
   entities_of_data d = (conforming d).store
 
-  -- where the request conforms, the entities decide
+  -- if the request conforms, the entities decide
   pub data_decided : {A E : Type 0} (r : Result A E) → RequestConforms → IsOk r ↔ EntitiesConform
       → IsOk r ↔ DataConforms schema request entities
   data_decided r of_request h = (λ ok. data_conforms of_request (h.0 ok), λ d. h.1 (entities_of_data d))
@@ -115,7 +115,7 @@ not_closed schema external c = true≢false (sym external ∙ closed_of schema c
 
 module _ (schema : ValidatorSchema) (template : Template) (values : BTreeMap SlotId EntityUID)
     (request : Request) (entities : Entities) where
-  -- where nothing of the schema is external and the policy is well-formed, the data decides
+  -- if nothing of the schema is external and the policy is well-formed, the data decides
   pub all_decided : {A E : Type 0} (r : Result A E) → has_external (schema_of schema) ≡ false
       → IsWellFormed (template_of template) (slots_of values) → IsOk r ↔ DataConforms schema request entities
       → IsOk r ↔ ArePremises schema template values request entities
@@ -124,7 +124,8 @@ module _ (schema : ValidatorSchema) (template : Template) (values : BTreeMap Slo
     λ p. h.1 p.conforming,
   )
 
-  -- the first that is not met of the data is the first of all, behind a closed schema and a well-formed policy
+  -- the first fault of the data is the first of all, if the schema is closed and the policy
+  -- well-formed
   pub first_behind : (f : PremiseFault) → has_external (schema_of schema) ≡ false
       → IsWellFormed (template_of template) (slots_of values) → IsFirstOfData f schema request entities
       → IsFirstUnmet f schema template values request entities

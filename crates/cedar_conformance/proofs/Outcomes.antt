@@ -1,15 +1,15 @@
--- What is answered, from what is found.
+-- Outcomes of checks, from the findings of searches.
 use Rattle.std.proofs.Common.{◌≡◌, ap, sym, subst, ◌∙◌, ℕ, suc, Bool, true, false, List, [], ◌∷◌, length, refl, nat_eq, arith}
 use Rattle.std.proofs.Common.{Option, Result, Ok, Err, IfErr}
 use borrow.Author.Tests.{eqb-true}
 use Rattle.std.specs.Bool.{Decides}
 use Rattle.cedar_conformance.specs.Answers.{fault_in, lists_none, passes_if_any}
 
--- a test that equals one that decides
+-- a test that equals a deciding test decides too
 pub decided : {P : Type 0} (b r : Bool) → b ≡ r → Decides r P → (b ≡ true → P) × (P → b ≡ true)
 decided {P} b r e d = subst (λ x. Decides x P) (sym e) d
 
--- a list whose length is tested is empty where nothing is in it
+-- a list whose length tests as zero is a list without elements
 pub empty_list : {A : Type 0} (n : ℕ) (xs : List A) → n ≡ length xs → nat_eq n 0 ≡ lists_none xs
 empty_list n [] e = ap (λ m. nat_eq m 0) e
 empty_list n (x ∷ xs) e = at (nat_eq n 0) refl
@@ -21,7 +21,7 @@ empty_list n (x ∷ xs) e = at (nat_eq n 0) refl
         absurd (omega arith)
     at false h = h
 
--- what a check answers passes where what is found does
+-- the fault that a check answers passes if the finding of its search passes
 pub told : {F : Type 0} (p : F → Bool) (r : Result (Unit {0}) F) (o : Option F) → fault_in r ≡ o → passes_if_any p o ≡ true
     → IfErr r (λ f. p f ≡ true)
 told p (Ok u) o e h = tt

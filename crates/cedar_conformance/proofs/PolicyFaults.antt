@@ -1,4 +1,4 @@
--- The first fault of a policy is none where the policy fits.
+-- The first fault of a policy: there is none iff the policy fits.
 use Rattle.std.proofs.Common.{◌≡◌, refl, Bool, true, false, not, ◌&&◌, Some, None, option_map, if◌then◌else◌}
 use Rattle.cedar_types.specs.declared.base.names.slots.SlotId.{SlotId}
 use Rattle.cedar_types.specs.Templates.{PlainTemplate}

@@ -1,4 +1,4 @@
--- Records by their keys: what is found in one, and whether a name is one of some attributes.
+-- Records by their keys: lookups in a record, and the test that a name is among some attributes.
 use Rattle.std.proofs.Common.{◌≡◌, refl, ap, ◌∙◌, Bool, true, false, ◌||◌, List, [], ◌∷◌, Option, Some, None, option_map}
 use Rattle.std.proofs.Common.{if◌then◌else◌, is_some, suc, length, IsTrue, ◌↔◌}
 use Rattle.std.specs.BTreeMap.{BTreeMap, btree_map_len, is_at}
@@ -20,7 +20,7 @@ use Rattle.cedar_conformance.specs.StoreTests.{is_empty_record}
 use Rattle.cedar_conformance.specs.declared.values.Value.{Value}
 use Rattle.cedar_conformance.specs.Values.{value_of, entries_of, record_of}
 
--- what a record has at a key is what its map has there
+-- a record has at a key the value that its map has there
 pub found : (k : RcStr Global) (es : List (RcStr Global × Value))
     → entry_at (text_of k) (entries_of es) ≡ option_map value_of (lookup (is_at (key_cmp k)) es)
 found k [] = refl
@@ -34,12 +34,12 @@ found k (e ∷ es) =
     at true o p h = refl
     at false o p h = h
 
--- a value that is lent is seen as what it is
+-- a lent value is viewed as the value itself
 pub lent : (r : Option (Bor Value)) → option_map (λ v. value_of v.now) r ≡ option_map value_of (option_copied r)
 lent None = refl
 lent (Some v) = refl
 
--- a name is found among attributes where it is one of their names
+-- a name is found among attributes iff it is one of their names
 pub named : (k : Text) (xs : Attrs) → is_some (find_attr k xs) ≡ list_any (text_eq k) (attr_names xs)
 named k no_attrs = refl
 named k (attr l t r xs) = at (text_eq k l) (named k xs)
@@ -53,7 +53,7 @@ pub mapped_some : {X Y : Type 0} (f : X → Y) (o : Option X) → is_some (optio
 mapped_some f None = refl
 mapped_some f (Some x) = refl
 
--- a record is empty where its map is
+-- a record is empty iff its map is
 pub empty_record : (m : BTreeMap (RcStr Global) Value) (b : Bool) → (IsTrue b ↔ (btree_map_len m ≡ 0)) → b ≡ is_empty_record (record_of m)
 empty_record m b h = at m.entries b h
   where

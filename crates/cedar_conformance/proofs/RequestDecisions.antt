@@ -1,4 +1,4 @@
--- The test of requests decides which conform, where no action is declared twice.
+-- The test of requests decides which conform, if no action is declared twice.
 use Rattle.std.proofs.Common.{◌≡◌, inl, inr, refl, sym, ap, subst, ◌∙◌, Bool, true, false, true≢false, ◌&&◌, cond, List, [], ◌∷◌, map}
 use Rattle.std.proofs.Common.{Option, Some, None, if◌then◌else◌}
 use Rattle.std.specs.Bool.{Decides}
@@ -39,7 +39,7 @@ in_name p [] h = absurd h
 in_name p (q ∷ ps) (inl e) = or_left (path_eq p q) (is_among ps p) (subst (λ r. path_eq p r ≡ true) e (path_same.itself p))
 in_name p (q ∷ ps) (inr h) = or_right (path_eq p q) (is_among ps p) (in_name p ps h)
 
--- where no action is declared twice, each is the one of its name
+-- if no action is declared twice, each is the action that its name finds
 named_is : (acts : List DeclaredAction) → repeats_action acts ≡ false → (a : DeclaredAction) → IsOneOf a acts
     → action_named acts a.name ≡ Some a
 named_is [] n a h = absurd h
@@ -56,7 +56,7 @@ named_is (b ∷ acts) n a (inr h) =
 -- ---- a request that passes the test
 
 module _ (s : Schema) (r : Request) where
-  -- the environment that the request is of
+  -- the environment of the request
   abbrev env_at : Application → DeclaredEnv
   env_at a = record {
     principal = r.principal.entity_type;

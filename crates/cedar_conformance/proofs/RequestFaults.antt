@@ -1,4 +1,4 @@
--- A request has the fault that is found.
+-- Request faults: a request has the fault that is found.
 use Rattle.std.proofs.Common.{◌≡◌, sym, ap, subst, true, false, not, ◌&&◌, List}
 use Rattle.cedar_types.proofs.Tests.{and_both}
 use Rattle.cedar_types.specs.Lemmas.Comparisons.{path_same, uid_same}
@@ -10,7 +10,7 @@ use Rattle.cedar_types.specs.declared.base.names.entities.EntityUID.{EntityUID}
 use Rattle.cedar_conformance.specs.RequestFaults.{application_has}
 use Rattle.cedar_conformance.specs.declared.requests.RequestFault.TheVariants as fault
 
--- a copy of a type is the type, and is not among others where this is not
+-- a type that a list lacks equals its copy, and the list lacks it
 type_there : (ps : List Path) (s t : EntityType) → placed_type t ≡ placed_type s → is_among ps (type_of s) ≡ false
     → (path_eq (type_of t) (type_of s) && not (is_among ps (type_of s))) ≡ true
 type_there ps s t same out =

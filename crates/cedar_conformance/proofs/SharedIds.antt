@@ -39,7 +39,7 @@ same_id x y e =
     uid_same.to (shared_id x) (shared_id y)
     (uid_ties (shared_id x) (shared_id y) ∙ ap is_eq (sym (uids_cmp x.value y.value) ∙ e))
 
--- whether it is this id tells two apart as the order does
+-- equality with this id separates two ids as the order does
 point : (v : Uid) → IsPoint shared_cmp (λ r. uid_eq v (shared_id r))
 point v = record {
   alike = λ x y e. ap (uid_eq v) (same_id x y e);
@@ -81,7 +81,7 @@ pub pushed : (xs : List (Rc EntityUID Global)) (x : Rc EntityUID Global)
     → AddsId (ids_of xs) (shared_id x) (ids_of (xs ++ x ∷ []))
 pushed xs x = adds xs x (xs ++ x ∷ []) (λ p q. any_push p xs x)
 
--- what is above the last of them is above all
+-- a property of all elements holds of the last one
 all_last : {X : Type 0} (P : X → Type 0) (xs : List X) (y : X) → AllByRecursion P (xs ++ y ∷ []) → P y
 all_last P [] y h = h.0
 all_last P (x ∷ xs) y h = all_last P xs y h.1
@@ -99,7 +99,7 @@ lt_less Less h = refl
 lt_less Equal h = absurd (true≢false (sym h))
 lt_less Greater h = absurd (true≢false (sym h))
 
--- whatever is chosen of two that pass
+-- either of two elements that pass passes, with any choice
 pub either : {A : Type 0} (P : A → Type 0) (b : Bool) (x y : A) → P x → P y → P (if b then x else y)
 either P true x y p q = p
 either P false x y p q = q

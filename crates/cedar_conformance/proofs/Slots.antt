@@ -1,4 +1,4 @@
--- Which slots are bound, and where slots and unknowns stand.
+-- Slots: the test that they are bound, and the places of slots and unknowns.
 use Rattle.std.proofs.Common.{◌≡◌, refl, sym, ap, subst, ◌∙◌, Bool, true, false, true≢false, not, ◌&&◌, ◌||◌, List, [], ◌∷◌, ◌++◌, map}
 use Rattle.std.proofs.Common.{Option, Some, None, is_some}
 use Rattle.std.specs.Bool.{Decides}
@@ -130,7 +130,7 @@ slot_decides s t b = at (has_slot s t) (b s)
     at true o = (λ e h. (bound_decides o).0 e, λ f. (bound_decides o).1 (f refl))
     at false o = (λ e h. absurd (true≢false (sym h)), λ f. refl)
 
--- each slot that occurs is bound where both slots fit
+-- each slot that occurs is bound iff both slots fit
 pub slots_decide : (t : PlainTemplate) (b : Slots) → Decides (slots_fit t b) (SlotsBound b (condition_of t))
 slots_decide t b =
     Decides-like (slots_fit t b)
@@ -202,7 +202,7 @@ action_known l (within_actions us) =
     list_any-append is_unknown (subexpressions_of_all (trees_of (map (uid_at l) us))) _
     ∙ ap (λ b. b || false) (ids_known l us)
 
--- of two parts, neither of which has one
+-- the parts of two expressions without unknowns have none
 both_known : (x y : Source) → any_unknown x ≡ false → any_unknown y ≡ false → list_any is_unknown (subexpressions y ++ subexpressions x) ≡ false
 both_known x y h k = list_any-append is_unknown (subexpressions y) (subexpressions x) ∙ (λ i. k i || any_unknown x) ∙ h
 

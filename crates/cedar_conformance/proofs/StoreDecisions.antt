@@ -20,7 +20,7 @@ use Rattle.cedar_conformance.specs.Tests.{keys_among, has_type, have_attrs}
 use Rattle.cedar_conformance.proofs.Lists.{all_within}
 use Rattle.cedar_conformance.proofs.TypeTests.{always, itself, entries_decide, keys_decide, type_decides, attrs_decide}
 
--- ---- what is empty
+-- ---- emptiness
 
 empty_decides : (es : Entries) → Decides (is_empty_record es) (es ≡ no_entries)
 empty_decides no_entries = (λ e. refl, λ e. refl)
@@ -141,7 +141,7 @@ declaration_decides s u (Some t) e = kind_decides s.types u.entity_type t.kind e
 some_is : {A : Type 0} {x y : A} → Some x ≡ Some y → x ≡ y
 some_is e = cc
 
--- what each entry passes, what is found passes
+-- an entity that the store finds passes if each entry passes
 fits_found : (p : Uid × Entity → Bool) (store : Store) → list_all p store ≡ true → (u : Uid) (e : Entity) → entity_at store u ≡ Some e
     → p (u, e) ≡ true
 fits_found p [] h u e m = cc
@@ -156,7 +156,7 @@ fits_found p (x ∷ store) h u e m =
         (λ j. p (named j, same j)) ∙ and_left (p x) (list_all p store) h
     at false i k f = f k
 
--- what is not named is not found
+-- an id that no entry has is not found
 unnamed : (k : Uid) (store : Store) → list_any (λ y. uid_eq k y.0) store ≡ false → entity_at store k ≡ None
 unnamed k [] h = refl
 unnamed k (x ∷ store) h = at (uid_eq k x.0) h (unnamed k store)
@@ -167,7 +167,7 @@ unnamed k (x ∷ store) h = at (uid_eq k x.0) h (unnamed k store)
     at true h f = cc
     at false h f = f h
 
--- where no two entries have one id, what each that is found passes, each entry passes
+-- each entry passes, if each found entity passes and no two entries have one id
 all_fit : (p : Uid × Entity → Bool) (store : Store) → IsApart store
     → ((u : Uid) (e : Entity) → entity_at store u ≡ Some e → p (u, e) ≡ true) → list_all p store ≡ true
 all_fit p [] a f = refl

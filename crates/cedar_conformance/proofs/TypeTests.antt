@@ -16,7 +16,7 @@ use Rattle.cedar_types.proofs.Names.Ids.{path_decides}
 use Rattle.cedar_conformance.specs.Tests.{bool_in, is_long, is_string, entity_in, set_in, record_in, extension_in, passes, all_values}
 use Rattle.cedar_conformance.specs.Tests.{all_entries, has_kind, has_attr, keys_among, is_closed_by, has_type, have_attrs}
 
--- what always holds, what never does, and a test itself
+-- three decisions: the property that always holds, the one that never does, and a test itself
 pub always : Decides true (Unit {0})
 always = (λ e. tt, λ h. refl)
 
@@ -100,7 +100,7 @@ attr_decides : (r : Bool) (p : Value → Bool) (P : Value → Type 0) → ((v : 
 attr_decides r p P h None = itself (not r)
 attr_decides r p P h (Some v) = h v
 
--- the entries are those of a record with these attributes
+-- the two tests of entries decide whether they are those of a record with these attributes
 record_decides : (xs : Attrs) (o : Bool) → ((es : Entries) → Decides (have_attrs xs es) (HasAttrs xs es)) → (es : Entries)
     → Decides (have_attrs xs es && is_closed_by o (attr_names xs) es) (HasAttrs xs es × IsClosedBy o (attr_names xs) es)
 record_decides xs o h es =

@@ -1,7 +1,7 @@
--- The findings of a search, as tests.
+-- Answers as tests: the findings of a search.
 use Rattle.std.specs.Prelude.{◌≡◌, Bool, true, false, ◌&&◌, List, [], ◌∷◌, Option, Some, None, Result, Ok, Err, IfOk}
 
--- nothing is found
+-- the search finds nothing
 abbrev pub finds_none : {A : Type 0} → Option A → Bool
 finds_none None = true
 finds_none (Some x) = false
@@ -21,7 +21,7 @@ abbrev pub lists_none : {A : Type 0} → List A → Bool
 lists_none [] = true
 lists_none (x ∷ xs) = false
 
--- a search that ends finds nothing exactly where this holds
+-- a search that ends finds nothing exactly if this holds
 abbrev pub FindsNoneWhere : {A E : Type 0} → Result (Option A) E → Bool → Type 0
 FindsNoneWhere found holds = IfOk found (λ o. finds_none o ≡ holds)
 
@@ -29,6 +29,6 @@ FindsNoneWhere found holds = IfOk found (λ o. finds_none o ≡ holds)
 abbrev pub FindsWhat : {A E : Type 0} → Result (Option A) E → (A → Bool) → Type 0
 FindsWhat found p = IfOk found (λ o. passes_if_any p o ≡ true)
 
--- where this holds, nothing more is found; where it does not, something is
+-- the list stays empty exactly if it was empty and this holds
 abbrev pub AddsNoneWhere : {A : Type 0} → Bool → List A → List A → Type 0
 AddsNoneWhere holds before after = lists_none after ≡ (lists_none before && holds)

@@ -1,4 +1,4 @@
--- The entities that a program has, as a store.
+-- Entities of a program, as a store.
 use Rattle.std.specs.Prelude.{◌≡◌, List, map}
 use Rattle.cedar_types.specs.Names.{Uid, uid_of}
 use Rattle.cedar_types.specs.Values.Stores as store
@@ -26,6 +26,6 @@ stored_all es = map stored_of es
 abbrev pub store_of : Entities → Store
 store_of es = stored_all es.entries.entries
 
--- two stores have the same of each id
+-- two stores have the same entity at each id
 abbrev pub IsSameStore : Store → Store → Type 0
 IsSameStore s t = (u : Uid) → entity_at s u ≡ entity_at t u

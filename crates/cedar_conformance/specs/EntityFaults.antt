@@ -1,4 +1,4 @@
--- The meaning of the faults of entities, for a store.
+-- Entity faults: their meaning for a store.
 use Rattle.std.specs.Prelude.{Bool, false, not, ◌&&◌, ◌||◌, List, Option, Some, None}
 use Rattle.std.specs.List.{list_any, list_all}
 use Rattle.std.specs.Option.{is_some}
@@ -14,13 +14,13 @@ use Rattle.cedar_conformance.specs.declared.entity_faults.EntityProblem.TheVaria
 use Rattle.cedar_conformance.specs.StoreTests.{ancestor_fits, are_no_ids, is_empty_record}
 use Rattle.cedar_conformance.specs.Tests.{all_entries, has_type, have_attrs, keys_among}
 
--- the attributes are not as declared
+-- the attributes do not fit their declaration
 abbrev pub attributes_have : Attrs → Entries → EntityProblem → Bool
 attributes_have attrs es (problem.Attribute f) =
     not (have_attrs attrs es && keys_among (attr_names attrs) es)
 attributes_have attrs es f = false
 
--- the tags are not of the declared type, or there are some and no type is declared
+-- the tags do not have the declared type, or there are tags and no type is declared
 abbrev pub tags_have : Option Ty → Entries → EntityProblem → Bool
 tags_have (Some t) es (problem.Tag f) = not (all_entries (has_type t) es)
 tags_have None es problem.UndeclaredTags = not (is_empty_record es)
@@ -32,14 +32,14 @@ ancestors_have ts p us (problem.Ancestor u) =
     uid_is_among us (uid_of u) && not (ancestor_fits ts p (uid_of u))
 ancestors_have ts p us f = false
 
--- one of these
+-- an entity of a standard type has a problem of its attributes, its tags or its ancestors
 abbrev pub standard_has : List DeclaredType → Path → Attrs → Option Ty → Entity → EntityProblem
     → Bool
 standard_has ts p attrs tags e f =
     attributes_have attrs e.attributes f
     || (tags_have tags e.tags f || ancestors_have ts p e.ancestors f)
 
--- an entity of which nothing may be stored: something is
+-- an entity that may have no data has attributes, ancestors or tags
 abbrev pub bare_has : Entity → EntityProblem → Bool
 bare_has e problem.HasAttributes = not (is_empty_record e.attributes)
 bare_has e problem.HasAncestors = not (are_no_ids e.ancestors)
@@ -51,7 +51,8 @@ kind_has ts p (StandardKind attrs tags) e f = standard_has ts p attrs tags e f
 kind_has ts p (EnumKind ids) e f = bare_has e f
 kind_has ts p ExternalKind e f = false
 
--- an action: it is not declared, has attributes or tags, is in one that does not declare it, or is not in one that does
+-- an action is not declared, has attributes or tags, is in one that does not declare it, or is not
+-- in one that does
 abbrev pub action_has : List DeclaredAction → Uid → Entity → EntityProblem → Bool
 action_has acts u e problem.Undeclared = not (declares_action acts u)
 action_has acts u e problem.HasAttributes = not (is_empty_record e.attributes)
@@ -78,7 +79,7 @@ lacks_action s store u problem.MissingAction =
     declares_action s.actions u && not (is_some (entity_at store u))
 lacks_action s store u f = false
 
--- the problem of this id is one that there is: the action is missing, or the data under the id has the problem
+-- the problem of this id exists: the action is missing, or the data under the id has the problem
 abbrev pub is_there : Schema → Store → Uid → EntityProblem → Bool
 is_there s store u f = lacks_action s store u f || list_any (entry_has s u f) store
 
@@ -86,11 +87,11 @@ is_there s store u f = lacks_action s store u f || list_any (entry_has s u f) st
 abbrev pub faults_pass : (Uid → EntityProblem → Bool) → List EntityFault → Bool
 faults_pass p fs = list_all (λ f. p (uid_of f.id) f.problem) fs
 
--- each fault is one that there is
+-- each fault exists
 abbrev pub all_there : Schema → Store → List EntityFault → Bool
 all_there s store fs = faults_pass (is_there s store) fs
 
--- the problem of an action that is to be there, if it is not
+-- the problem of an action that has to be there: it is missing
 abbrev pub missing_action : Option Entity → Option EntityProblem
 missing_action None = Some problem.MissingAction
 missing_action (Some e) = None

@@ -20,6 +20,6 @@ ids_of rs = map shared_id rs
 abbrev pub shared_cmp : Rc EntityUID Global → Rc EntityUID Global → Ordering
 shared_cmp a b = entity_uid_cmp a.value b.value
 
--- afterwards a set has what it had, and u
+-- the set after adding has the ids from before, and u
 abbrev pub AddsId : List Uid → Uid → List Uid → Type 0
 AddsId before u after = (v : Uid) → uid_is_among after v ≡ (uid_is_among before v || uid_eq v u)

@@ -1,4 +1,4 @@
--- Whether a policy is well-formed for the bindings of its slots, as a test.
+-- Policy tests: whether a policy is well-formed for the bindings of its slots.
 use Rattle.std.specs.Prelude.{Bool, false, not, ◌&&◌, ◌||◌, Option, Some, None, option_map, if◌then◌else◌}
 use Rattle.std.specs.BTreeMap.{BTreeMap}
 use Rattle.std.specs.List.{list_any}
@@ -46,7 +46,8 @@ unbound_slot t b =
     else if not (slot_fits SlotId.Resource t b) then Some SlotId.Resource
     else None
 
--- the first fault of a policy, in this order: an unknown among its conditions, a slot there, a slot that is not bound
+-- the first fault of a policy, in this order: an unknown in its conditions, a slot there, or a slot
+-- that is not bound
 abbrev pub policy_fault : PlainTemplate → Slots → Option PolicyFault
 policy_fault t b =
     if rest_has_unknown t.rest then Some PolicyFault.Unknown

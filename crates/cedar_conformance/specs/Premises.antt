@@ -31,26 +31,27 @@ pub record IsWorldOfData (r : Request) (es : Entities) (world : World) : Type 0 
   pub request : world.request ≡ request_of r
   pub store : world.store ≡ store_of es
 
--- a world of the data conforms by the schema, if only its extension functions keep the table
+-- a world of the data conforms by the schema, if its extension functions keep the table
 abbrev pub DataConforms : ValidatorSchema → Request → Entities → Type 0
 DataConforms schema request entities =
     (b : Basis) → b.schema ≡ schema_of schema
     → (world : World) → IsWorldOfData request entities world → KeepsTable b.table world.functions
     → IsConforming b world
 
--- the schema is closed, in each sound mode and whatever the extension functions
+-- the schema is closed, in each sound mode and with any extension functions
 abbrev pub SchemaIsClosed : ValidatorSchema → Type 0
 SchemaIsClosed schema =
     (b : Basis) → b.schema ≡ schema_of schema → IsSoundMode b.mode → IsSoundAndClosed b
 
--- all that the promises ask of a host, but that the extension functions keep their table
+-- the premises of the promises on a host's data, except that the extension functions keep their
+-- table
 pub record ArePremises (schema : ValidatorSchema) (template : Template)
     (values : BTreeMap SlotId EntityUID) (request : Request) (entities : Entities) : Type 0 where
   pub closed : SchemaIsClosed schema
   pub well_formed : IsWellFormed (template_of template) (slots_of values)
   pub conforming : DataConforms schema request entities
 
--- ---- the first that is not met
+-- ---- the first premise that is not met
 
 -- the entities do not conform, some faults are listed, and they have each of these
 pub record AreFaultsOf (fs : Vec EntityFault Global) (schema : ValidatorSchema) (entities : Entities) : Type 0 where
@@ -58,8 +59,8 @@ pub record AreFaultsOf (fs : Vec EntityFault Global) (schema : ValidatorSchema) 
   pub some : lists_none fs.items ≡ false
   pub there : all_there (schema_of schema) (store_of entities) fs.items ≡ true
 
--- of the request and the entities: the request does not conform, and this is its fault; or it does, and the entities do
--- not, and each of these faults is one that they have
+-- the first fault of the request and the entities: the request does not conform, and this is its
+-- fault; or it does, and the entities do not, and each of these faults is one that they have
 abbrev pub IsFirstOfData : PremiseFault → ValidatorSchema → Request → Entities → Type 0
 IsFirstOfData fault.External schema request entities = ⊥
 IsFirstOfData (fault.Policy f) schema request entities = ⊥
@@ -69,8 +70,8 @@ IsFirstOfData (fault.Request f) schema request entities =
 IsFirstOfData (fault.Entities fs) schema request entities =
     ConformingRequest (schema_of schema) (request_of request) × AreFaultsOf fs schema entities
 
--- of all: the schema is not closed; or it is, and the policy with its links is not well-formed, and this is its fault; or it
--- is too, and the request or the entities do not conform
+-- the first fault of all: the schema is not closed; or it is, and the policy with its links is not
+-- well-formed, and this is its fault; or it is too, and the request or the entities do not conform
 abbrev pub IsFirstUnmet : PremiseFault → ValidatorSchema → Template → BTreeMap SlotId EntityUID
     → Request → Entities → Type 0
 IsFirstUnmet fault.External schema template values request entities =

@@ -8,8 +8,8 @@ use Rattle.cedar_conformance.specs.declared.requests.RequestFault.{RequestFault}
 use Rattle.cedar_conformance.specs.declared.requests.RequestFault.TheVariants as fault
 use Rattle.cedar_conformance.specs.Tests.{has_type}
 
--- the action applies to other principals than those of type p; or to these, and to other resources than those of type r; or
--- to these too, and the context has not its type
+-- the action applies to other principals than those of type p; or to these, and to other resources
+-- than those of type r; or to these too, but the context does not have its type
 abbrev pub application_has : Application → Path → Path → Entries → RequestFault → Bool
 application_has a p r context (fault.PrincipalType t) = path_eq (type_of t) p && not (is_among a.principals p)
 application_has a p r context (fault.ResourceType t) =
@@ -18,7 +18,7 @@ application_has a p r context (fault.Context f) =
     is_among a.principals p && (is_among a.resources r && not (has_type a.context (VRecord context)))
 application_has a p r context f = false
 
--- the action is declared elsewhere, so that nobody knows the types to which it applies
+-- the action is declared elsewhere, so that the types to which it applies are unknown
 abbrev pub applied_has : Option Application → Uid → Path → Path → Entries → RequestFault → Bool
 applied_has (Some a) action p r context f = application_has a p r context f
 applied_has None action p r context (fault.ExternalAction u) = uid_eq (uid_of u) action

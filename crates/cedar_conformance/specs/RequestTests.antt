@@ -1,18 +1,17 @@
--- Whether a request is one of some environment, as a test.
+-- Request tests: whether a request is one of some environment.
 use Rattle.std.specs.Prelude.{Bool, false, ◌&&◌, Option, Some, None}
 use Rattle.cedar_types.specs.Names.{Path, Uid}
 use Rattle.cedar_types.specs.Schemas.{Application, DeclaredAction, Schema, is_among, action_named}
 use Rattle.cedar_types.specs.Values.{VRecord, Entries}
 use Rattle.cedar_conformance.specs.Tests.{has_type}
 
--- whether the action applies to principals of type p and resources of type r, and the context has its
--- type
+-- the action applies to principals of type p and resources of type r, and the context has its type
 abbrev pub application_fits : Option Application → Path → Path → Entries → Bool
 application_fits None p r context = false
 application_fits (Some a) p r context =
     is_among a.principals p && (is_among a.resources r && has_type a.context (VRecord context))
 
--- whether the declaration of the action fits the rest of the request
+-- the declaration of the action fits the rest of the request
 abbrev pub declaration_fits : Option DeclaredAction → Path → Path → Entries → Bool
 declaration_fits None p r context = false
 declaration_fits (Some a) p r context = application_fits a.applies_to p r context

@@ -1,4 +1,4 @@
--- The request that a program has.
+-- Requests: the request that a program holds, as the request of a world.
 use Rattle.cedar_types.specs.Names.{uid_of}
 use Rattle.cedar_typing.specs.Evaluation.World as world
 use Rattle.cedar_conformance.specs.declared.requests.Request.{Request}

@@ -1,4 +1,4 @@
--- Whether a store conforms, as a test.
+-- Store tests: whether a store conforms.
 use Rattle.std.specs.Prelude.{◌≡◌, Bool, true, false, not, ◌&&◌, ◌||◌, List, [], ◌∷◌, Option, Some, None}
 use Rattle.std.specs.List.{list_all}
 use Rattle.std.specs.Option.{is_some}
@@ -18,16 +18,16 @@ abbrev pub are_no_ids : List Uid → Bool
 are_no_ids [] = true
 are_no_ids (u ∷ us) = false
 
--- tags, if they are declared, have their type; else there are none
+-- tags have their declared type; if no type is declared, there are none
 abbrev pub tags_fit : Option Ty → Entries → Bool
 tags_fit None es = is_empty_record es
 tags_fit (Some t) es = all_entries (has_type t) es
 
--- the ancestor's type is a declared one of which the type p is a descendant
+-- the ancestor's type is declared, and the type p is a descendant of it
 abbrev pub ancestor_fits : List DeclaredType → Path → Uid → Bool
 ancestor_fits ts p v = declares_type ts v.entity_type && is_among (descendants_of ts v.entity_type) p
 
--- nothing is stored of an entity but that it is there
+-- an entity has no attributes, no ancestors and no tags
 abbrev pub is_bare : Entity → Bool
 is_bare e = is_empty_record e.attributes && (are_no_ids e.ancestors && is_empty_record e.tags)
 
@@ -45,7 +45,7 @@ fits_kind ts p ExternalKind e = true
 abbrev pub has_its_ancestor : Uid → Entity → DeclaredAction → Bool
 has_its_ancestor u e a = not (uid_is_among a.descendants u) || uid_is_among e.ancestors a.name
 
--- just the declared ancestors, no attributes and no tags
+-- an action has just its declared ancestors, no attributes and no tags
 abbrev pub fits_action : List DeclaredAction → Uid → Entity → Bool
 fits_action acts u e =
     (is_empty_record e.attributes && is_empty_record e.tags)
@@ -59,15 +59,15 @@ fits_declaration s u (Some t) e = fits_kind s.types u.entity_type t.kind e
 abbrev pub fits_schema : Schema → Uid × Entity → Bool
 fits_schema s e = fits_declaration s e.0 (type_named s.types e.0.entity_type) e.1
 
--- each entity is as the schema says
+-- each entity fits the schema
 abbrev pub each_fits : Schema → Store → Bool
 each_fits s store = list_all (fits_schema s) store
 
--- each of these actions is there
+-- each of these actions is in the store
 abbrev pub are_there : List DeclaredAction → Store → Bool
 are_there acts store = list_all (λ a. is_some (entity_at store a.name)) acts
 
--- both
+-- each entity fits, and each declared action is in the store
 abbrev pub store_fits : Schema → Store → Bool
 store_fits s store = each_fits s store && are_there s.actions store
 

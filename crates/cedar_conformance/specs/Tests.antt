@@ -1,4 +1,4 @@
--- Whether a value has a type, as a test.
+-- Type tests: whether a value has a type.
 use Rattle.std.specs.Prelude.{Bool, true, false, not, ◌&&◌, List, Option, Some, None}
 use Rattle.std.specs.List.{list_any}
 use Rattle.std.specs.Option.{is_some}
@@ -11,7 +11,7 @@ use Rattle.cedar_types.specs.Values.{Entries, no_entries, more_entries, entry_at
 use Rattle.cedar_types.specs.declared.base.types.BoolType.{BoolType}
 use Rattle.cedar_types.specs.declared.base.types.BoolType.TheVariants.{AnyBool, True, False}
 
--- ---- by kinds: what is in a value, if it is of the kind
+-- ---- by kinds: the content of a value, if it is of the kind
 
 abbrev pub bool_in : Value → Option Bool
 bool_in (VBool b) = Some b
@@ -41,7 +41,7 @@ abbrev pub extension_in : Value → Option Path
 extension_in (VExtension n t) = Some n
 extension_in v = None
 
--- there is one, and it passes
+-- there is a value, and it passes
 abbrev pub passes : {A : Type 0} → (A → Bool) → Option A → Bool
 passes p None = false
 passes p (Some x) = p x
@@ -63,7 +63,7 @@ has_kind AnyBool b = true
 has_kind True b = b
 has_kind False b = not b
 
--- an attribute that is there passes, and a required one is there
+-- an attribute that is present passes, and a required one is present
 abbrev pub has_attr : Bool → (Value → Bool) → Option Value → Bool
 has_attr required p None = not required
 has_attr required p (Some v) = p v
@@ -73,13 +73,13 @@ abbrev pub keys_among : List Text → Entries → Bool
 keys_among ks no_entries = true
 keys_among ks (more_entries k v es) = list_any (text_eq k) ks && keys_among ks es
 
--- a closed record has no other key
+-- a closed record has no key beyond these names
 abbrev pub is_closed_by : Bool → List Text → Entries → Bool
 is_closed_by true ks es = true
 is_closed_by false ks es = keys_among ks es
 
 abbrev mutual
-  -- whether the value has the type
+  -- the value has the type
   pub has_type : Ty → Value → Bool
   has_type TNever = λ v. false
   has_type (TBool k) = λ v. passes (has_kind k) (bool_in v)

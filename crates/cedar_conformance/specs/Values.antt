@@ -1,4 +1,4 @@
--- The values that a program has, as the values of which the theorems speak.
+-- Values of a program, as the values of the theorems.
 use Rattle.std.specs.Prelude.{List, [], ◌∷◌, map}
 use Rattle.std.specs.BTreeMap.{BTreeMap}
 use Rattle.std.specs.declared.alloc.Global.{Global}
@@ -11,12 +11,12 @@ use Rattle.cedar_conformance.specs.declared.values.Value.{Value, fold-Value}
 use Rattle.cedar_conformance.specs.declared.values.Value.TheOpen as layer
 use Rattle.cedar_conformance.specs.declared.values.Value.TheOpen.{Value-F}
 
--- a list of members
+-- a list of members as the members of a set
 abbrev pub members_of : List plain.Value → Values
 members_of [] = no_values
 members_of (v ∷ vs) = more_values v (members_of vs)
 
--- some values by key
+-- values by key as entries
 abbrev pub keyed_of : List (RcStr Global × plain.Value) → Entries
 keyed_of [] = no_entries
 keyed_of (e ∷ es) = more_entries (text_of e.0) e.1 (keyed_of es)
@@ -31,7 +31,7 @@ value_step (layer.Set vs) = VSet (members_of vs.items)
 value_step (layer.Record es) = VRecord (keyed_of es.entries)
 value_step (layer.Extension n t) = VExtension (path_of n) (text_of t)
 
--- a value
+-- the plain value of a value
 abbrev pub value_of : Value → plain.Value
 value_of = fold-Value plain.Value value_step
 
@@ -39,10 +39,10 @@ value_of = fold-Value plain.Value value_step
 abbrev pub values_of : List Value → Values
 values_of vs = members_of (map value_of vs)
 
--- some values by key
+-- the entries of a list of values by key
 abbrev pub entries_of : List (RcStr Global × Value) → Entries
 entries_of es = keyed_of (map (λ e. (e.0, value_of e.1)) es)
 
--- a record
+-- the entries of a record
 abbrev pub record_of : BTreeMap (RcStr Global) Value → Entries
 record_of r = entries_of r.entries

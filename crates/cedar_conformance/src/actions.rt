@@ -1,4 +1,4 @@
-// Whether the stored data of an action is as a schema says.
+// Actions: the check of the stored data of an action.
 ghost use Rattle.std.specs.Prelude.{◌≡◌, ◌&&◌, IfOk};
 ghost use Rattle.std.specs.List.{list_all};
 ghost use Rattle.cedar_types.specs.Names.{uid_of};
@@ -18,7 +18,8 @@ use crate::sets::{has_id, is_empty};
 use cedar_types::base::{EntityUID, ValidatorActionId, ValidatorSchema};
 use std::alloc::Global;
 
-/// The first way in which the data under an id is no declared action, with its declared ancestors and nothing else.
+/// Returns the first problem of the data under an id, which has to be a declared action with its
+/// declared ancestors and nothing else.
 pub(crate) fn find_in_action(
     alloc: Global,
     schema: &ValidatorSchema,
@@ -46,7 +47,7 @@ pub(crate) fn find_in_action(
     find_missing_ancestor(alloc, schema, id, entity)
 }
 
-/// The first ancestor that is not declared to be one.
+/// Returns the first ancestor that is not a declared one.
 #[tactic(auto, using(crate::proofs::Among::among_tail, crate::proofs::FoundFaults::undeclared_there))]
 fn find_undeclared_ancestor(
     schema: &ValidatorSchema,
@@ -79,7 +80,7 @@ fn is_declared_ancestor(schema: &ValidatorSchema, id: &EntityUID, ancestor: &Ent
     }
 }
 
-/// A declared ancestor that is not there.
+/// Returns a declared ancestor that the data lacks.
 #[tactic(auto, using(crate::proofs::Among::among_tail, crate::proofs::FoundFaults::missing_there))]
 fn find_missing_ancestor(
     alloc: Global,

@@ -7,12 +7,11 @@ use std::alloc::{AllocError, Global};
 use std::collections::BTreeMap;
 
 impl Value {
-    /// A copy. Where memory is refused, the answer is an `AllocError`.
+    /// Copies the value. If memory is refused, the answer is an `AllocError`.
     pub fn try_clone(&self, alloc: Global) -> Result<Value, AllocError>
         ensures { IfOk result (λ v. value_of v ≡ value_of self.now) }
     {
-        let copy = copy_value(alloc, self)?;
-        Ok(copy)
+        copy_value(alloc, self)
     }
 }
 
@@ -46,7 +45,7 @@ fn copy_members(alloc: Global, members: &Vec<Value>) -> Result<Vec<Value>, Alloc
     Ok(copies)
 }
 
-/// A copy of a record. Where memory is refused, the answer is an `AllocError`.
+/// Copies a record. If memory is refused, the answer is an `AllocError`.
 #[cycle(copied_values)]
 pub(crate) fn copy_record(alloc: Global, entries: &Record) -> Result<Record, AllocError>
     ensures { IfOk result (λ r. record_of r ≡ record_of entries.now) }

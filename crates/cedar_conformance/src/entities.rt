@@ -1,4 +1,4 @@
-// Entities as a program has them.
+// Entities as a program holds them.
 ghost use Rattle.std.specs.Prelude.{◌≡◌, ◌↔◌, [], ◌∷◌, ◌++◌, IfOk, IsTrue, OnOk, OnErr, is_some, length, not, option_map};
 ghost use Rattle.cedar_types.specs.Names.{uid_of};
 ghost use Rattle.cedar_types.specs.Values.Stores.{IsBare, entity_at};
@@ -10,17 +10,17 @@ use cedar_types::base::EntityUID;
 use std::alloc::{AllocError, Global};
 use std::collections::BTreeMap;
 
-/// What is stored of an entity.
+/// The stored data of an entity.
 #[derive(Debug, Drop)]
 pub struct Entity {
     pub attributes: Record,
-    /// Whatever the entity is in, at any distance.
+    /// All entities that the entity is in, at any distance.
     pub ancestors: Ids,
     pub tags: Record,
 }
 
 impl Entity {
-    /// An entity without attributes, ancestors and tags.
+    /// Makes an entity without attributes, ancestors and tags.
     pub fn bare(alloc: Global) -> Entity
         ensures { IsBare (entity_of result) }
     {
@@ -32,14 +32,14 @@ impl Entity {
     }
 }
 
-/// Entities by their ids. Of several entries of one id the first counts.
+/// Entities by their ids. If several entries have one id, the first counts.
 #[derive(Debug, Drop)]
 pub struct Entities {
     pub(crate) entries: BTreeMap<EntityUID, Entity>,
 }
 
 impl Entities {
-    /// No entities.
+    /// Makes the store without entities.
     pub fn new(alloc: Global) -> Entities
         ensures { store_of result ≡ [] }
     {
@@ -48,7 +48,7 @@ impl Entities {
         }
     }
 
-    /// The entities of these entries, of which the first of an id counts.
+    /// Makes the store of these entries. If several entries have one id, the first counts.
     pub fn from_list(
         alloc: Global,
         listed: Vec<(EntityUID, Entity)>,
@@ -62,8 +62,8 @@ impl Entities {
         Ok(all)
     }
 
-    /// Adds an entity behind those that are there, and answers whether it counts: whether there was none of its id. Where
-    /// memory is refused, nothing changes.
+    /// Adds an entity behind the others, and returns whether it counts: it counts if the store had
+    /// none of its id. If memory is refused, nothing changes.
     pub fn add(&mut self, id: EntityUID, entity: Entity) -> Result<bool, AllocError>
         ensures ok { OnOk result (IsSameStore (store_of self.new)
             (store_of self.old ++ (uid_of id, entity_of entity) ∷ [])) }
@@ -78,7 +78,7 @@ impl Entities {
         Ok(true)
     }
 
-    /// What is stored of the entity of this id.
+    /// Returns the stored data of the entity of this id.
     pub fn get(&self, id: &EntityUID) -> Option<&Entity>
         ensures { option_map (λ e. entity_of e.now) result
             ≡ entity_at (store_of self.now) (uid_of id.now) }
@@ -86,14 +86,14 @@ impl Entities {
         self.entries.get(id)
     }
 
-    /// How many entities there are.
+    /// Returns the number of entities.
     pub fn len(&self) -> usize
         ensures { result ≡ length (store_of self.now) }
     {
         self.entries.len()
     }
 
-    /// Whether there are none.
+    /// Returns whether there are no entities.
     pub fn is_empty(&self) -> bool
         ensures { IsTrue result ↔ (length (store_of self.now) ≡ 0) }
     {

@@ -1,4 +1,4 @@
-// How entities are not as a schema says.
+// Faults of entities under a schema.
 ghost use Rattle.std.specs.Prelude.{◌≡◌, Bool, true, OnOk};
 ghost use Rattle.cedar_types.specs.Names.{Uid, uid_of};
 ghost use Rattle.cedar_conformance.specs.Answers.{finds_none, passes_if_any, AddsNoneWhere};
@@ -10,34 +10,34 @@ use cedar_types::base::EntityUID;
 use std::alloc::AllocError;
 use std::fmt;
 
-/// How an entity is not as its type says, or as the declaration of the action.
+/// The problem of an entity under the declaration of its type, or of the action.
 #[derive(Debug, PartialEq, Eq, Drop)]
 pub enum EntityProblem {
-    /// Neither its type nor an action of its id is declared.
+    /// Neither the type of the entity nor an action of its id is declared.
     Undeclared,
-    /// An attribute is not as the type says.
+    /// An attribute does not fit the type.
     Attribute(ValueFault),
-    /// A tag is not as the type says.
+    /// A tag does not fit the type.
     Tag(ValueFault),
-    /// It has tags, and its type has none.
+    /// The entity has tags, but its type declares none.
     UndeclaredTags,
-    /// It may not be in an entity of the type of this one.
+    /// The entity may not be in an entity of the type of this one.
     Ancestor(EntityUID),
-    /// It is an action or of an enumerated type, and has attributes.
+    /// The entity is an action or of an enumerated type, but has attributes.
     HasAttributes,
-    /// It is an action or of an enumerated type, and has tags.
+    /// The entity is an action or of an enumerated type, but has tags.
     HasTags,
-    /// It is of an enumerated type, and is in others.
+    /// The entity is of an enumerated type, but is in others.
     HasAncestors,
-    /// It is an action, and is not declared to be in this one.
+    /// The entity is an action, but no declaration puts it in this one.
     UndeclaredAncestor(EntityUID),
-    /// It is an action, is declared to be in this one, and is not.
+    /// The entity is an action that is declared to be in this one, but is not.
     MissingAncestor(EntityUID),
-    /// It is a declared action, and is not among the entities.
+    /// The entity is a declared action, but is not among the entities.
     MissingAction,
 }
 
-/// An entity that is not as the schema says, by its id, and how.
+/// A fault: the id of an entity, and its problem under the schema.
 #[derive(Debug, PartialEq, Eq, Drop)]
 pub struct EntityFault {
     pub id: EntityUID,
@@ -69,7 +69,7 @@ impl fmt::Display for EntityFault {
     }
 }
 
-/// Adds the problem that was found in an entity, if there is one. Where memory is refused, nothing is added.
+/// Adds the problem of an entity, if a check found one. If memory is refused, it adds nothing.
 pub(crate) fn add_found(
     faults: &mut Vec<EntityFault>,
     id: &EntityUID,

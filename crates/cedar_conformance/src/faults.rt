@@ -1,4 +1,4 @@
-// Where a value is not as its type says, and how.
+// Faults of a value: the place at which it does not fit its type, and the mismatch.
 ghost use Rattle.std.specs.Prelude.{◌≡◌, false, IfOk};
 ghost use Rattle.std.specs.Option.{is_none};
 
@@ -12,11 +12,11 @@ use thiserror::Error;
 /// A step from a value to a part of it.
 #[derive(Debug, PartialEq, Eq, Drop)]
 pub enum Step {
-    /// To the attribute of this name.
+    /// A step to the attribute of this name.
     Attribute(RcStr),
-    /// To the member at this place of a set's list, from 0.
+    /// A step to the member at this place of a set's list, from 0.
     Element(usize),
-    /// To the tag of this name.
+    /// A step to the tag of this name.
     Tag(RcStr),
 }
 
@@ -30,7 +30,7 @@ impl fmt::Display for Step {
     }
 }
 
-/// The kind of a value, with its type where that has a name.
+/// The kind of a value, with its type if the type has a name.
 #[derive(Debug, PartialEq, Eq, Drop)]
 pub enum ValueKind {
     Bool,
@@ -43,7 +43,7 @@ pub enum ValueKind {
 }
 
 impl ValueKind {
-    /// The kind of this value.
+    /// Returns the kind of a value.
     pub fn of_value(value: &Value) -> Result<ValueKind, AllocError> {
         match value {
             Value::Bool(_) => Ok(ValueKind::Bool),
@@ -74,7 +74,7 @@ impl fmt::Display for ValueKind {
     }
 }
 
-/// How a value is not as its type says.
+/// The reason why a value does not fit its type.
 #[derive(Debug, PartialEq, Eq, Drop, Error)]
 pub enum Mismatch {
     /// The value is of another type.
@@ -83,27 +83,27 @@ pub enum Mismatch {
         expected: CedarType,
         found: ValueKind,
     },
-    /// The attribute is required and is not there. It would have this type.
+    /// The attribute, which is required, is missing. It would have this type.
     #[error("expected {expected}, found nothing")]
     MissingAttribute {
         expected: CedarType,
     },
-    /// The attribute is there, and the type has none of its name.
+    /// The attribute is present, but the type has none of its name.
     #[error("the attribute is not declared")]
     UndeclaredAttribute,
 }
 
-/// The first place where a value is not as its type says, and how.
+/// The first place at which a value does not fit its type, and the mismatch.
 #[derive(Debug, PartialEq, Eq, Drop)]
 pub struct ValueFault {
     // the last step first
     steps_back: Vec<Step>,
-    /// The mismatch there.
+    /// The mismatch at that place.
     pub mismatch: Mismatch,
 }
 
 impl ValueFault {
-    /// The mismatch of the value itself.
+    /// Makes the fault of the value itself.
     pub(crate) fn here(alloc: Global, mismatch: Mismatch) -> ValueFault {
         ValueFault {
             steps_back: Vec::new(alloc),
@@ -111,7 +111,7 @@ impl ValueFault {
         }
     }
 
-    /// The same fault, seen from a value of which this step leads to the part that has it.
+    /// Moves the fault one level up: `step` leads from the outer value to the part that has it.
     pub(crate) fn below(self, step: Step) -> Result<ValueFault, AllocError> {
         let ValueFault {
             mut steps_back,

@@ -15,14 +15,14 @@ use std::cmp::Ordering;
 use std::marker::Model;
 use std::rc::Rc;
 
-/// A set of entity ids: a vector in ascending order without repeats. An id is shared by the sets that have it, so that each of
-/// many sets takes the size of a pointer for it.
+/// A set of entity ids: a vector in ascending order without repeats. Sets share an id that they
+/// have in common, so that each of them uses only the size of a pointer for it.
 #[derive(Debug, Drop)]
 pub struct Ids {
     ids: Vec<Rc<EntityUID>>,
 }
 
-// A contract sees a set as the list of its ids.
+// A set is the list of its ids in contracts.
 impl Model for Ids {
     ghost use Rattle.std.specs.Prelude.{List};
     ghost use Rattle.std.specs.List.Sorted.{IsStrictlySortedBy};
@@ -39,7 +39,7 @@ impl Model for Ids {
 }
 
 impl Ids {
-    /// The empty set. It takes no memory.
+    /// Makes the empty set. It allocates no memory.
     pub fn new(alloc: Global) -> Ids
         ensures { ids_of result ≡ [] }
     {
@@ -48,42 +48,43 @@ impl Ids {
         }
     }
 
-    /// How many ids the set has.
+    /// Returns the number of ids.
     pub fn len(&self) -> usize
         ensures { result ≡ length self.now }
     {
         self.ids.len()
     }
 
-    /// Whether the set has no ids.
+    /// Returns whether the set has no ids.
     pub fn is_empty(&self) -> bool
         ensures { result ≡ are_no_ids (ids_of self.now) }
     {
         self.ids.is_empty()
     }
 
-    /// Whether the set has this id, by a binary search.
+    /// Returns whether the set has this id, by a binary search.
     pub fn contains(&self, id: &EntityUID) -> bool
         ensures { result ≡ uid_is_among (ids_of self.now) (uid_of id.now) }
     {
         self.ids.binary_search_by(|own| compare(own, id)).is_ok()
     }
 
-    /// The ids, in ascending order.
+    /// Returns the ids, in ascending order.
     pub fn as_slice(&self) -> &[Rc<EntityUID>]
         ensures { result.now ≡ self.now }
     {
         &self.ids
     }
 
-    /// Makes room for as many more ids. Where memory is refused, the answer is an `AllocError`, and the set is as it was.
+    /// Makes room for `more` further ids. If memory is refused, the answer is an `AllocError`, and
+    /// the set is unchanged.
     pub fn reserve(&mut self, more: usize) -> Result<(), AllocError>
         ensures { self.new ≡ self.old }
     {
         self.ids.reserve_exact(more)
     }
 
-    /// Adds an id. Where memory is refused, the answer is an `AllocError`, and the set is as it was.
+    /// Adds an id. If memory is refused, the answer is an `AllocError`, and the set is unchanged.
     pub fn insert(&mut self, id: EntityUID) -> Result<(), AllocError>
         ensures added { OnOk result (AddsId (ids_of self.old) (uid_of id) (ids_of self.new)) }
         ensures kept { OnErr result (self.new ≡ self.old) }
@@ -92,8 +93,8 @@ impl Ids {
         self.share(shared)
     }
 
-    /// Adds an id that other sets may have. Where it is above all that the set has, it costs one comparison. Where memory is
-    /// refused, the answer is an `AllocError`, and the set is as it was.
+    /// Adds an id that other sets may have. An id above all ids of the set costs one comparison. If
+    /// memory is refused, the answer is an `AllocError`, and the set is unchanged.
     pub fn share(&mut self, id: Rc<EntityUID>) -> Result<(), AllocError>
         ensures added { OnOk result (AddsId (ids_of self.old) (shared_id id) (ids_of self.new)) }
         ensures kept { OnErr result (self.new ≡ self.old) }
@@ -102,11 +103,12 @@ impl Ids {
     }
 }
 
-/// Puts an id in its place, unless it is there. Where memory is refused, all stays as it was.
+/// Puts an id in its place, unless it is there. If memory is refused, nothing changes.
 fn add_id(ids: &mut Vec<Rc<EntityUID>>, id: Rc<EntityUID>) -> Result<(), AllocError>
     requires { IsStrictlySortedBy shared_cmp ids.old.items }
     ensures ascending { IsStrictlySortedBy shared_cmp ids.new.items }
-    ensures added { OnOk result (AddsId (ids_of ids.old.items) (shared_id id) (ids_of ids.new.items)) }
+    ensures added { OnOk result
+        (AddsId (ids_of ids.old.items) (shared_id id) (ids_of ids.new.items)) }
     ensures kept { OnErr result (ids.new.items ≡ ids.old.items) }
 {
     if is_above_all(ids, &id) {
@@ -122,14 +124,14 @@ fn add_id(ids: &mut Vec<Rc<EntityUID>>, id: Rc<EntityUID>) -> Result<(), AllocEr
     }
 }
 
-/// The order of a shared id and another.
+/// Returns the order of a shared id and another id.
 fn compare(own: &Rc<EntityUID>, id: &EntityUID) -> Ordering
     ensures { result ≡ entity_uid_cmp own.now.value id.now }
 {
     (**own).cmp(id)
 }
 
-/// Whether an id is above all of these.
+/// Returns whether an id is above all of these.
 fn is_above_all(ids: &[Rc<EntityUID>], id: &Rc<EntityUID>) -> bool
     requires { IsStrictlySortedBy shared_cmp ids.now }
     ensures { IsTrue result → AllByRecursion (λ own. shared_cmp own id.now ≡ Less) ids.now }

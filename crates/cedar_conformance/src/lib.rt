@@ -1,5 +1,5 @@
-//! Data that a host has, and whether it is as a schema says: values, requests and entities, and what
-//! else the promises of validation ask of a schema and of a policy. Nothing is evaluated here.
+//! Data of a host, checked by a schema: values, requests and entities, and the other premises that
+//! the promises of validation ask of a schema and of a policy. This crate evaluates nothing.
 #![tactic(auto)]
 
 mod actions;

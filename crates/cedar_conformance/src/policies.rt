@@ -1,4 +1,4 @@
-// The premises of the promises on a policy and on its links.
+// Policies: the premises of the promises on a policy and on its links.
 ghost use Rattle.std.specs.Prelude.{◌≡◌, ◌↔◌, IfOk, IsOk, option_map, is_some};
 ghost use Rattle.cedar_types.specs.Expressions.View.{written};
 ghost use Rattle.cedar_types.specs.Templates.{template_of};
@@ -12,14 +12,14 @@ use cedar_types::base::{Expr, ExprKind, SlotEnv, SlotId, Template};
 use std::alloc::{AllocError, Global};
 use std::fmt;
 
-/// Why a policy with these links is not well-formed: the first of these that is so.
+/// The reason why a policy with these links is not well-formed: the first that applies.
 #[derive(Clone, Copy, Debug, PartialEq, Eq)]
 pub enum PolicyFault {
-    /// Its condition has an unknown.
+    /// The condition has an unknown.
     Unknown,
     /// A slot stands outside the scope.
     SlotOutsideScope,
-    /// This slot occurs, and is not bound.
+    /// This slot occurs, but is not bound.
     UnboundSlot(SlotId),
 }
 
@@ -34,8 +34,9 @@ impl fmt::Display for PolicyFault {
     }
 }
 
-/// Whether the policy has no unknowns, its slots stand in the scope alone, and each that occurs is bound. Else the first
-/// fault, in the order of `PolicyFault`. Where memory is refused, the answer is an `AllocError`.
+/// Checks that a policy is well-formed: it has no unknowns, its slots stand in the scope alone, and
+/// each slot that occurs is bound. Otherwise the answer is the first fault, in the order of
+/// `PolicyFault`. If memory is refused, the answer is an `AllocError`.
 pub fn check_policy(alloc: Global, template: &Template, values: &SlotEnv) -> Checked<PolicyFault>
     ensures exact { IfOk result (λ r.
         IsOk r ↔ IsWellFormed (template_of template.now) (slots_of values.now)) }
@@ -62,7 +63,7 @@ fn find_in_policy(alloc: Global, template: &Template, values: &SlotEnv) -> Found
     }
 }
 
-/// The first slot that occurs in the template and is not bound.
+/// Returns the first slot that occurs in the template but is not bound.
 fn find_unbound(alloc: Global, template: &Template, values: &SlotEnv) -> Found<SlotId>
     ensures { IfOk result (λ o.
         o ≡ unbound_slot (template_of template.now) (slots_of values.now)) }
@@ -95,7 +96,7 @@ fn is_bound(values: &SlotEnv, slot: SlotId) -> bool
     values.contains_key(&slot)
 }
 
-/// Whether a part of the conditions, at any depth, is an unknown. It does not recurse.
+/// Returns whether a part of the conditions, at any depth, is an unknown. It does not recurse.
 fn rest_has_unknown(alloc: Global, rest: &Option<Expr>) -> Result<bool, AllocError>
     ensures { IfOk result (λ b. b ≡ rest_has_unknown (option_map written rest.now)) }
 {
@@ -110,7 +111,7 @@ fn rest_has_unknown(alloc: Global, rest: &Option<Expr>) -> Result<bool, AllocErr
     Ok(false)
 }
 
-/// Whether the expression is itself an unknown.
+/// Returns whether the expression itself is an unknown.
 fn is_unknown(expr: &Expr) -> bool
     ensures { result ≡ is_unknown (written expr.now) }
 {
@@ -120,7 +121,7 @@ fn is_unknown(expr: &Expr) -> bool
     }
 }
 
-/// Whether a slot occurs in the conditions. It does not recurse.
+/// Returns whether a slot occurs in the conditions. It does not recurse.
 fn rest_mentions_slot(alloc: Global, rest: &Option<Expr>) -> Result<bool, AllocError>
     ensures { IfOk result (λ b. b ≡ rest_mentions_slot (option_map written rest.now)) }
 {
@@ -137,6 +138,5 @@ fn mentions_any_slot(alloc: Global, expr: &Expr) -> Result<bool, AllocError>
     if has_principal {
         return Ok(true);
     }
-    let has_resource = expr.mentions_slot(alloc, SlotId::Resource)?;
-    Ok(has_resource)
+    expr.mentions_slot(alloc, SlotId::Resource)
 }

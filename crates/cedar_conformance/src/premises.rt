@@ -1,4 +1,4 @@
-// All that the promises of validation ask of a host, in one call.
+// Premises of the promises of validation: all that a host has to meet, checked in one call.
 ghost use Rattle.std.specs.Prelude.{◌≡◌, false, ◌↔◌, IfOk, IfErr, IsOk};
 ghost use Rattle.cedar_types.specs.Schemas.Contents.{schema_of};
 ghost use Rattle.cedar_types.specs.Templates.{template_of};
@@ -20,7 +20,7 @@ use crate::stores::check_entities;
 use cedar_types::base::{SlotEnv, Template, ValidatorSchema};
 use std::alloc::Global;
 
-/// Which premise is not met: the first of these.
+/// The first premise that is not met, in the order of the variants.
 #[derive(Debug, PartialEq, Eq, Drop)]
 pub enum PremiseFault {
     /// A type or an action of the schema is declared elsewhere.
@@ -33,10 +33,11 @@ pub enum PremiseFault {
     Entities(Vec<EntityFault>),
 }
 
-/// Whether the promises of validation hold with this request and these entities, of any policy: a world that has them
-/// conforms by the schema, if only its extension functions keep the table. It answers Ok exactly where that is so (clause
-/// `exact`). Else the request's fault, or, where the request conforms, those of the entities (clause `first`). Where memory is
-/// refused, the answer is an `AllocError`.
+/// Checks that the promises of validation hold for this request and these entities, with any
+/// policy: a world that has them conforms by the schema, if its extension functions keep the table.
+/// The answer is Ok exactly if that holds (clause `exact`). Otherwise it is the request's fault,
+/// or, if the request conforms, the faults of the entities (clause `first`). If memory is refused,
+/// the answer is an `AllocError`.
 pub fn check_data(
     alloc: Global,
     schema: &ValidatorSchema,
@@ -57,7 +58,7 @@ pub fn check_data(
     }
 }
 
-/// The entities alone, behind a request that conforms.
+/// Checks the entities alone, after a request that conforms.
 fn check_stored(
     alloc: Global,
     schema: &ValidatorSchema,
@@ -75,10 +76,11 @@ fn check_stored(
     }
 }
 
-/// Whether all premises of the promises of validation are met, on a schema, a policy with its links, a request and entities.
-/// Nothing is left to be believed but that the extension functions keep their table. It answers Ok exactly where they are met
-/// (clause `exact`). Else it tells of the first that is not, in the order of `PremiseFault`: those before it are met (clause
-/// `first`). Where memory is refused, the answer is an `AllocError`.
+/// Checks all premises of the promises of validation, on a schema, a policy with its links, a
+/// request and entities. You must trust only one thing more: that the extension functions keep
+/// their table. The answer is Ok exactly if the premises are met (clause `exact`). Otherwise it
+/// tells the first one that is not met, in the order of `PremiseFault`; those before it are met
+/// (clause `first`). If memory is refused, the answer is an `AllocError`.
 pub fn check_premises(
     alloc: Global,
     schema: &ValidatorSchema,

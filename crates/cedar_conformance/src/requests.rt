@@ -1,4 +1,4 @@
-// Requests, and whether one conforms to a schema.
+// Requests, and the check that one conforms to a schema.
 ghost use Rattle.std.specs.Prelude.{◌≡◌, true, false, ◌↔◌, Some, IfOk, IfErr, IsOk};
 ghost use Rattle.cedar_types.specs.Schemas.Contents.{schema_of};
 ghost use Rattle.cedar_types.specs.Schemas.Declarations.{application};
@@ -33,18 +33,18 @@ pub struct Request {
     pub context: Record,
 }
 
-/// Why a request does not conform: the first of these that is so.
+/// The reason why a request does not conform: the first that applies.
 #[derive(Debug, PartialEq, Eq, Drop)]
 pub enum RequestFault {
     /// The action is not declared.
     UndeclaredAction(EntityUID),
-    /// The action is declared elsewhere, so that nobody knows the types to which it applies.
+    /// The action is declared elsewhere, so that the types to which it applies are unknown.
     ExternalAction(EntityUID),
     /// The action does not apply to principals of this type.
     PrincipalType(EntityType),
     /// The action does not apply to resources of this type.
     ResourceType(EntityType),
-    /// The context is not as the action's type of it says.
+    /// The context does not fit the action's type of it.
     Context(ValueFault),
 }
 
@@ -68,9 +68,10 @@ impl fmt::Display for RequestFault {
     }
 }
 
-/// Whether the request is one of those that the schema allows: it is about an action that is declared, entities of types that
-/// the action applies to, and a context of the action's type (clause `exact`). Else the first fault that it has, in the order
-/// of `RequestFault` (clause `first`). Whether there are such entities is not asked. Where memory for a fault is refused, the
+/// Checks that the schema allows the request: its action is declared, its entities are of types
+/// that the action applies to, and its context has the action's type (clause `exact`). Otherwise
+/// the answer is the first fault of the request, in the order of `RequestFault` (clause `first`).
+/// The check does not ask whether these entities exist. If memory for a fault is refused, the
 /// answer is an `AllocError`.
 pub fn check_request(
     alloc: Global,
@@ -115,7 +116,8 @@ fn find_in_application(
     request: &Request,
 ) -> Found<RequestFault>
     ensures none { FindsNoneWhere result
-        (application_fits (Some (application applies_to.now)) (type_of request.now.principal.entity_type)
+        (application_fits (Some (application applies_to.now))
+        (type_of request.now.principal.entity_type)
         (type_of request.now.resource.entity_type) (record_of request.now.context)) }
     ensures there { FindsWhat result
         (application_has (application applies_to.now) (type_of request.now.principal.entity_type)
@@ -141,7 +143,7 @@ fn find_in_application(
     }
 }
 
-/// Where the context is not as its type says.
+/// Returns the first place at which the context does not fit its type.
 fn find_in_context(alloc: Global, ty: &CedarType, context: &Record) -> Found<ValueFault>
     ensures { FindsNoneWhere result
         (has_type (ty_of ty.now) (VRecord (record_of context.now))) }
@@ -165,7 +167,7 @@ fn find_in_context(alloc: Global, ty: &CedarType, context: &Record) -> Found<Val
     }
 }
 
-/// A record has no type of entities.
+/// Proves that a record has no type of entities.
 fn entities_are_no_records(kind: &EntityKind, context: &Record)
     ensures { has_type (kind_of kind.now) (VRecord (record_of context.now)) ≡ false }
 {
@@ -175,7 +177,7 @@ fn entities_are_no_records(kind: &EntityKind, context: &Record)
     }
 }
 
-/// That a record is of another type than this.
+/// Returns the fault that a record stands in the place of this type.
 fn no_record(alloc: Global, ty: &CedarType) -> Found<ValueFault>
     ensures { FindsNoneWhere result false }
 {

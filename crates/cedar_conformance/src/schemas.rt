@@ -1,4 +1,4 @@
-// Whether something in a schema is declared elsewhere.
+// Schemas: the check for external declarations.
 ghost use Rattle.std.specs.Prelude.{◌≡◌, not, IfOk};
 ghost use Rattle.std.specs.List.{list_any};
 ghost use Rattle.std.specs.Option.{is_some};
@@ -12,8 +12,8 @@ use cedar_types::base::{
 };
 use std::alloc::{AllocError, Global};
 
-/// Whether a type or an action of the schema is external: declared elsewhere, so that nothing else is known of it. Where
-/// memory is refused, the answer is an `AllocError`.
+/// Returns whether a type or an action of the schema is external: it is declared elsewhere, so that
+/// its other properties are unknown. If memory is refused, the answer is an `AllocError`.
 pub fn has_external(alloc: Global, schema: &ValidatorSchema) -> Result<bool, AllocError>
     ensures { IfOk result (λ b. b ≡ has_external (schema_of schema.now)) }
 {
@@ -21,8 +21,7 @@ pub fn has_external(alloc: Global, schema: &ValidatorSchema) -> Result<bool, All
     if has_type {
         return Ok(true);
     }
-    let has_action = has_external_action(alloc, schema)?;
-    Ok(has_action)
+    has_external_action(alloc, schema)
 }
 
 fn has_external_type(alloc: Global, schema: &ValidatorSchema) -> Result<bool, AllocError>

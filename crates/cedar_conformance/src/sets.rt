@@ -1,4 +1,4 @@
-// What a set of types, a set of ids and a record are asked.
+// Sets of types, sets of ids and records: their lookups.
 ghost use Rattle.std.specs.Prelude.{◌≡◌, option_map};
 ghost use Rattle.cedar_types.specs.Names.{text_of, type_of, uid_of};
 ghost use Rattle.cedar_types.specs.Schemas.Declarations.{uids_of};
@@ -13,21 +13,21 @@ use cedar_types::base::{EntityType, EntityUID};
 use std::collections::BTreeSet;
 use std::rc::RcStr;
 
-/// Whether a set of types has this one.
+/// Returns whether a set of types has this type.
 pub(crate) fn is_among_types(types: &BTreeSet<EntityType>, name: &EntityType) -> bool
     ensures { result ≡ is_among (types_of types.now) (type_of name.now) }
 {
     types.contains(name)
 }
 
-/// Whether a set of ids has this one.
+/// Returns whether a set of ids has this id.
 pub(crate) fn has_id(ids: &BTreeSet<EntityUID>, id: &EntityUID) -> bool
     ensures { result ≡ uid_is_among (uids_of ids.now) (uid_of id.now) }
 {
     ids.contains(id)
 }
 
-/// The value at a key.
+/// Returns the value at a key.
 pub(crate) fn value_at<'a>(entries: &'a Record, name: &RcStr) -> Option<&'a Value>
     ensures { option_map (λ v. value_of v.now) result
         ≡ entry_at (text_of name.now) (record_of entries.now) }
@@ -35,7 +35,7 @@ pub(crate) fn value_at<'a>(entries: &'a Record, name: &RcStr) -> Option<&'a Valu
     entries.get(name)
 }
 
-/// Whether a record has no values.
+/// Returns whether a record has no values.
 pub(crate) fn is_empty(entries: &Record) -> bool
     ensures { result ≡ is_empty_record (record_of entries.now) }
 {

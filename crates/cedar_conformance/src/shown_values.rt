@@ -1,4 +1,4 @@
-// How values are shown: as literals of a policy.
+// Shown values: a value displays as a literal of a policy.
 use crate::values::{Record, Value};
 use std::fmt;
 
@@ -19,7 +19,7 @@ impl fmt::Display for Value {
     }
 }
 
-/// The members of a set in brackets, in the order of its list.
+/// Writes the members of a set in brackets, in the order of its list.
 #[cycle(shown_values)]
 fn write_members<W: fmt::Write>(members: &Vec<Value>, f: &mut fmt::Formatter<W>) -> fmt::Result {
     write!(f, "[")?;
@@ -34,7 +34,7 @@ fn write_members<W: fmt::Write>(members: &Vec<Value>, f: &mut fmt::Formatter<W>)
     write!(f, "]")
 }
 
-/// The values of a record in braces, each after its key.
+/// Writes the values of a record in braces, each after its key.
 #[cycle(shown_values)]
 fn write_entries<W: fmt::Write>(entries: &Record, f: &mut fmt::Formatter<W>) -> fmt::Result {
     write!(f, "{{")?;

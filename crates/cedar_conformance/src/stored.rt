@@ -1,4 +1,4 @@
-// Whether what is stored of an entity is as a schema says.
+// Stored data of entities: its check by a schema.
 ghost use Rattle.std.specs.Prelude.{◌≡◌, ◌&&◌, ◌↔◌, true, Some, IfOk, IfErr, IsOk, option_map};
 ghost use Rattle.std.specs.List.{list_all};
 ghost use Rattle.cedar_types.specs.Names.{type_of, uid_of};
@@ -29,10 +29,12 @@ use cedar_types::base::{
 };
 use std::alloc::Global;
 
-/// Whether what is stored of the entity of this id is as the schema says; else how it is not, first. Of an entity of a type
-/// with declared attributes: it has only those and all that are required, each of its type, tags of their type if there is
-/// one, and may be in what it is in. One of an enumerated type has nothing, and of a type that is declared elsewhere nothing is
-/// asked. An action is declared, and has its declared ancestors alone. Where memory is refused, the answer is an `AllocError`.
+/// Checks the stored data of the entity of this id by the schema; otherwise the answer is its first
+/// problem. An entity of a type with declared attributes has only these and all that are required,
+/// each of its type; it has tags of their type, if the type declares one; and it may be in its
+/// ancestors. An entity of an enumerated type has nothing, and for a type that is declared
+/// elsewhere nothing is checked. An action is declared, and has its declared ancestors alone. If
+/// memory is refused, the answer is an `AllocError`.
 pub fn check_entity(
     alloc: Global,
     schema: &ValidatorSchema,
@@ -129,7 +131,7 @@ fn find_in_typed_tags(alloc: Global, ty: &CedarType, entries: &Record) -> Found<
     Ok(None)
 }
 
-/// The first ancestor in whose type the entity's may not be.
+/// Returns the first ancestor in whose type the entity's type may not be.
 #[tactic(auto, using(crate::proofs::Among::among_tail, crate::proofs::FoundFaults::ancestor_there))]
 fn find_in_ancestors(
     schema: &ValidatorSchema,
@@ -163,7 +165,7 @@ fn may_be_in(schema: &ValidatorSchema, id: &EntityUID, ancestor: &EntityUID) -> 
     }
 }
 
-/// What is stored of an entity of which nothing may be.
+/// Returns the first problem of an entity that may have no data.
 fn find_in_bare(entity: &Entity) -> Option<EntityProblem>
     ensures none { finds_none result ≡ is_bare (entity_of entity.now) }
     ensures there { passes_if_any (bare_has (entity_of entity.now)) result ≡ true }

@@ -1,4 +1,4 @@
-// Whether entities are as a schema says.
+// Stores of entities: their check by a schema.
 ghost use Rattle.std.specs.Prelude.{◌≡◌, ◌↔◌, true, false, IfOk, IfErr, IsOk, OnOk};
 ghost use Rattle.cedar_types.specs.Names.{uid_of};
 ghost use Rattle.cedar_types.specs.Schemas.Contents.{schema_of};
@@ -15,12 +15,13 @@ use crate::stored::find_in_entity;
 use cedar_types::base::{EntityUID, ValidatorSchema};
 use std::alloc::{AllocError, Global};
 
-/// How many entities are looked for that are not as a schema says.
+/// The number of faults after which the search in a store ends.
 pub const MAX_FAULTS: usize = 100;
 
-/// Whether each of the entities is as the schema says, and each declared action is among them. Else the entities of which
-/// that is not so, in the order of their ids, and then the actions that are missing: each with its first fault, and at most
-/// `MAX_FAULTS`. Where memory is refused, the answer is an `AllocError`.
+/// Checks that each entity fits the schema, and that each declared action is among the entities.
+/// Otherwise the answer is the entities that do not fit, in the order of their ids, and then the
+/// missing actions: each with its first fault, and at most `MAX_FAULTS`. If memory is refused, the
+/// answer is an `AllocError`.
 pub fn check_entities(
     alloc: Global,
     schema: &ValidatorSchema,
@@ -41,7 +42,7 @@ pub fn check_entities(
     }
 }
 
-/// Each entity is stored once.
+/// Proves that each entity is stored once.
 fn entities_are_apart(entities: &Entities)
     ensures { IsApart (store_of entities.now) }
 {
@@ -64,7 +65,7 @@ fn find_in_store(
     Ok(faults)
 }
 
-/// Adds the entities that are not as the schema says.
+/// Adds the entities that do not fit the schema.
 #[tactic(auto, using(crate::proofs::Among::among_tail, crate::proofs::FoundFaults::entry_there))]
 fn add_unfit(
     alloc: Global,
@@ -89,7 +90,7 @@ fn add_unfit(
     Ok(())
 }
 
-/// Adds the declared actions that are not there.
+/// Adds the declared actions that the store lacks.
 #[tactic(auto, using(crate::proofs::Among::among_tail, crate::proofs::FoundFaults::action_there))]
 fn add_missing_actions(
     alloc: Global,

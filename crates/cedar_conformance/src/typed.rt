@@ -1,4 +1,4 @@
-// Whether a value has a type, and if not, where it fails.
+// Typed values: the search for the first place at which a value does not have its type.
 ghost use Rattle.std.specs.Prelude.{◌≡◌, false, not, ◌&&◌, IfOk, option_map};
 ghost use Rattle.std.specs.List.{list_any};
 ghost use Rattle.cedar_types.specs.Types.{ty_of, kind_of, attributes_of, attr_names, is_open_tag};
@@ -17,8 +17,8 @@ use cedar_types::base::{
 use std::alloc::Global;
 use std::rc::RcStr;
 
-/// The first place where the value lacks the type; `None` where it has it. The recursion goes as deep as the type, whatever
-/// the value.
+/// Returns the first place at which the value lacks the type; `None` if it has the type. The
+/// recursion goes as deep as the type, for any value.
 #[cycle(typed)]
 pub(crate) fn find_fault(alloc: Global, ty: &CedarType, value: &Value) -> Found<ValueFault>
     ensures { FindsNoneWhere result (has_type (ty_of ty.now) (value_of value.now)) }
@@ -45,7 +45,7 @@ pub(crate) fn find_fault(alloc: Global, ty: &CedarType, value: &Value) -> Found<
     }
 }
 
-/// The first member that lacks the type.
+/// Returns the fault of the first member that lacks the type.
 #[cycle(typed)]
 fn find_in_members(alloc: Global, element: &CedarType, members: &Vec<Value>) -> Found<ValueFault>
     ensures { FindsNoneWhere result
@@ -59,7 +59,8 @@ fn find_in_members(alloc: Global, element: &CedarType, members: &Vec<Value>) -> 
     Ok(None)
 }
 
-/// The first attribute that is not as the record's type says: of those that are declared, and then of those that are not.
+/// Returns the first attribute that does not fit the record's type: declared ones come first, then
+/// undeclared ones.
 #[cycle(typed)]
 pub(crate) fn find_in_record(
     alloc: Global,
@@ -81,7 +82,7 @@ pub(crate) fn find_in_record(
     }
 }
 
-/// The first declared attribute that lacks its type, or that is required and missing.
+/// Returns the first declared attribute that lacks its type, or that is required and missing.
 #[cycle(typed)]
 fn find_in_declared(alloc: Global, attributes: &Attributes, entries: &Record) -> Found<ValueFault>
     ensures { FindsNoneWhere result
@@ -95,7 +96,7 @@ fn find_in_declared(alloc: Global, attributes: &Attributes, entries: &Record) ->
     Ok(None)
 }
 
-/// Whether the attribute, if it is there, lacks its type, or is required and missing.
+/// Returns the fault of an attribute that lacks its type, or that is required and missing.
 #[cycle(typed)]
 fn find_in_attribute(
     alloc: Global,
@@ -122,7 +123,7 @@ fn find_missing(alloc: Global, attribute: &AttributeType) -> Found<ValueFault>
     Ok(Some(ValueFault::here(alloc, Mismatch::MissingAttribute { expected })))
 }
 
-/// The first attribute that is not declared.
+/// Returns the first attribute that is not declared.
 fn find_undeclared(alloc: Global, attributes: &Attributes, entries: &Record) -> Found<ValueFault>
     ensures { FindsNoneWhere result
         (keys_among (attr_names (attributes_of attributes.now)) (record_of entries.now)) }
@@ -143,7 +144,7 @@ fn is_declared(attributes: &Attributes, name: &RcStr) -> bool
     attributes.get_attr(name).is_some()
 }
 
-/// No fault if it fits, and else that the value is of another type.
+/// Returns no fault if the value fits, and otherwise the fault of another type.
 fn fault_unless(alloc: Global, fits: bool, ty: &CedarType, value: &Value) -> Found<ValueFault>
     ensures { FindsNoneWhere result fits }
 {
@@ -153,7 +154,7 @@ fn fault_unless(alloc: Global, fits: bool, ty: &CedarType, value: &Value) -> Fou
     wrong_type(alloc, ty, value)
 }
 
-/// That the value is of another type than this.
+/// Returns the fault of a value that is of another type than `ty`.
 fn wrong_type(alloc: Global, ty: &CedarType, value: &Value) -> Found<ValueFault>
     ensures { FindsNoneWhere result false }
 {

@@ -1,4 +1,4 @@
-// Values, as a program has them.
+// Values, as a program holds them.
 ghost use Rattle.std.specs.Prelude.{◌≡◌, option_map, IfOk};
 ghost use Rattle.cedar_types.specs.Values.{VString, VExtension};
 ghost use Rattle.cedar_types.specs.Names.{path_of, uid_of};
@@ -13,9 +13,11 @@ use std::rc::RcStr;
 /// The values of a record, of an entity's attributes or of its tags, by their names.
 pub type Record = BTreeMap<RcStr, Value>;
 
-/// What an attribute, a tag or a context can be. To drop a value that is nested deep takes a deep stack.
+/// A value of an attribute, a tag or a context. To drop a value that is nested deep takes a deep
+/// stack.
 ///
-/// The order of values is the order of their kinds here, and within a kind that of what they hold, sets by their lists.
+/// The order of values is the order of their kinds here, and within a kind the order of their
+/// contents; sets compare by their lists.
 #[derive(PartialEq, Eq, PartialOrd, Ord, Debug)]
 pub enum Value {
     /// A truth value.
@@ -24,9 +26,9 @@ pub enum Value {
     Long(i64),
     /// A text.
     String(RcStr),
-    /// The id of an entity, whether or not there is such an entity.
+    /// The id of an entity, which may or may not exist.
     EntityUID(EntityUID),
-    /// A set, by a list of its members. One that comes twice counts once.
+    /// A set, by a list of its members. A repeated member counts once.
     Set(Vec<Value>),
     /// Values by key.
     Record(BTreeMap<RcStr, Value>),
@@ -34,7 +36,7 @@ pub enum Value {
     Extension { type_name: Name, text: RcStr },
 }
 
-// By hand, so that a proof has one call where a value is dropped.
+// Dropping is written by hand, so that a proof has one call for each dropped value.
 impl Drop for Value {
     fn drop(self) {
         match self {
@@ -53,14 +55,14 @@ impl Drop for Value {
 }
 
 impl Value {
-    /// The text.
+    /// Makes the value of a text.
     pub fn string(alloc: Global, text: &str) -> Result<Value, AllocError>
         ensures { IfOk result (λ v. value_of v ≡ VString text.now) }
     {
         Ok(Value::String(RcStr::from_str(alloc, text)?))
     }
 
-    /// The value of this extension type for which the text stands. Whether the type has such a value is not asked.
+    /// Makes the extension value of this text. It does not check that the type has such a value.
     pub fn extension(alloc: Global, type_name: Name, text: &str) -> Result<Value, AllocError>
         ensures { IfOk result (λ v. value_of v ≡ VExtension (path_of type_name) text.now) }
     {
@@ -68,7 +70,7 @@ impl Value {
         Ok(Value::Extension { type_name, text })
     }
 
-    /// The truth value, if it is one.
+    /// Returns the truth value, if the value is one.
     pub fn as_bool(&self) -> Option<bool>
         ensures { result ≡ bool_in (value_of self.now) }
     {
@@ -78,7 +80,7 @@ impl Value {
         }
     }
 
-    /// Whether it is a whole number.
+    /// Returns whether the value is a whole number.
     pub fn is_long(&self) -> bool
         ensures { result ≡ is_long (value_of self.now) }
     {
@@ -88,7 +90,7 @@ impl Value {
         }
     }
 
-    /// Whether it is a text.
+    /// Returns whether the value is a text.
     pub fn is_string(&self) -> bool
         ensures { result ≡ is_string (value_of self.now) }
     {
@@ -98,7 +100,7 @@ impl Value {
         }
     }
 
-    /// The id, if it is an entity's.
+    /// Returns the id, if the value is an entity's id.
     pub fn as_entity_uid(&self) -> Option<&EntityUID>
         ensures { option_map (λ u. uid_of u.now) result ≡ entity_in (value_of self.now) }
     {
@@ -108,7 +110,7 @@ impl Value {
         }
     }
 
-    /// The members, if it is a set.
+    /// Returns the members, if the value is a set.
     pub fn as_set(&self) -> Option<&Vec<Value>>
         ensures { option_map (λ vs. values_of vs.now.items) result ≡ set_in (value_of self.now) }
     {
@@ -118,7 +120,7 @@ impl Value {
         }
     }
 
-    /// The values by key, if it is a record.
+    /// Returns the values by key, if the value is a record.
     pub fn as_record(&self) -> Option<&BTreeMap<RcStr, Value>>
         ensures { option_map (λ r. record_of r.now) result ≡ record_in (value_of self.now) }
     {
@@ -128,7 +130,7 @@ impl Value {
         }
     }
 
-    /// The name of its type, if it is of an extension type.
+    /// Returns the name of the type, if the value is of an extension type.
     pub fn extension_type(&self) -> Option<&Name>
         ensures { option_map (λ n. path_of n.now) result ≡ extension_in (value_of self.now) }
     {

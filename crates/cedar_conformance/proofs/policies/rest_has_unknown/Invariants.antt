@@ -6,6 +6,6 @@ use Rattle.cedar_typing.specs.Silence.{is_unknown}
 use Rattle.cedar_conformance.specs.PolicyTests.{rest_has_unknown}
 use Rattle.cedar_conformance.proofs.policies.rest_has_unknown.Given as goal
 
--- what is left decides
+-- the parts that are left decide
 abbrev pub invariant-loop-part : goal.invariant-loop-part
 invariant-loop-part l = list_any is_unknown (expressions_left l.part-iterator) ≡ rest_has_unknown (option_map written l.fn.rest)

@@ -8,7 +8,7 @@ use Rattle.cedar_conformance.specs.StoreTests.{are_there}
 use Rattle.cedar_conformance.proofs.Among.{IsAmong}
 use Rattle.cedar_conformance.proofs.stores.add_missing_actions.Given as goal
 
--- what was found and the actions that are left decide, and each fault is there
+-- the faults so far and the actions that are left decide, and each fault is there
 abbrev pub invariant-loop-action : goal.invariant-loop-action
 invariant-loop-action l = record {
   none : (lists_none l.faults.items

@@ -8,7 +8,7 @@ use Rattle.cedar_conformance.specs.StoreTests.{fits_schema}
 use Rattle.cedar_conformance.proofs.Among.{IsAmong}
 use Rattle.cedar_conformance.proofs.stores.add_unfit.Given as goal
 
--- what was found and the entities that are left decide, and each fault is there
+-- the faults so far and the entities that are left decide, and each fault is there
 abbrev pub invariant-loop-id : goal.invariant-loop-id
 invariant-loop-id l = record {
   none : (lists_none l.faults.items && list_all (fits_schema (schema_of l.fn.schema)) (stored_all l.id-iterator))
