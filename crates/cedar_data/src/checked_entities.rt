@@ -1,4 +1,4 @@
-// Lists of entities, checked by a schema.
+// Lists of entities, read and checked by a schema.
 ghost use Rattle.std.specs.Prelude.{◌≡◌, false, length, IfErr, IfOk, IfSome, OnOk, is_some};
 ghost use Rattle.cedar_types.specs.Schemas.Contents.{schema_of};
 ghost use Rattle.cedar_types.specs.Values.Stores.{ConformingStore};
@@ -22,23 +22,24 @@ use std::alloc::{AllocError, Global};
 use std::collections::BTreeMap;
 use std::rc::Rc;
 
-/// What a text of entities gives.
+/// The result of reading a text of entities.
 #[derive(Debug, Drop)]
 pub struct CheckedEntities {
-    /// The entities of the text, and the declared actions that it does not list, where there is no mistake: all are as the
-    /// schema says.
+    /// The entities of the text, and the declared actions that it does not list, if there is no
+    /// mistake: all fit the schema.
     pub conforming: Option<Entities>,
-    /// How many entities could be read.
+    /// The number of entities that could be read.
     pub count: usize,
-    /// The mistakes: none exactly where there are conforming entities.
+    /// The mistakes: there are none exactly if there are conforming entities.
     pub faults: Faults,
-    /// The texts that constructors of extension values are given. Whether these can read them is not asked.
+    /// The texts that go to constructors of extension values. The check does not ask whether the
+    /// constructors can read them.
     pub texts: Vec<ExtensionText>,
 }
 
-/// Reads a list of entities in Cedar's form of JSON, and checks them by a schema. Of each entity `parents` has what it is in
-/// directly, and its ancestors are what is reached by these. The answer is an error where the text is no JSON that is read, or
-/// where memory is refused.
+/// Reads a list of entities in Cedar's JSON form, and checks them by a schema. The `parents` of an
+/// entity are those that it is in directly; its ancestors are all entities that the parents reach.
+/// The answer is an error if the text is not JSON that the reader accepts, or if memory is refused.
 pub fn check_entities_text(
     alloc: Global,
     schema: &ValidatorSchema,
@@ -71,7 +72,8 @@ pub fn check_entities_text(
     })
 }
 
-/// The entities, where they are as the schema says and have no other mistake. Where they are not, a mistake is listed.
+/// Returns the entities if they fit the schema and have no other mistake. If they do not fit, it
+/// lists a mistake.
 fn keep_conforming(
     alloc: Global,
     schema: &ValidatorSchema,
@@ -92,7 +94,7 @@ fn keep_conforming(
     }
 }
 
-/// What the declared actions are in, whatever the distance.
+/// Returns the ids that each declared action is in, at any distance.
 fn declared_ancestors(alloc: Global, schema: &ValidatorSchema) -> Result<Ancestors, AllocError> {
     let mut declared = BTreeMap::new(alloc);
     let actions = schema.action_ids(alloc)?;
@@ -110,7 +112,7 @@ fn declared_ancestors(alloc: Global, schema: &ValidatorSchema) -> Result<Ancesto
     Ok(declared)
 }
 
-/// The entities of a list, and the declared actions that it lacks.
+/// Returns the entities of a list, and the declared actions that it lacks.
 fn stored(alloc: Global, list: List<'_>, declared: Ancestors) -> Result<Entities, AllocError> {
     let mut entities = Entities::new(alloc);
     let List { entries, places: _ } = list;
@@ -129,7 +131,7 @@ fn stored(alloc: Global, list: List<'_>, declared: Ancestors) -> Result<Entities
     Ok(entities)
 }
 
-/// Lists what is said of entities as a whole, where nothing else was found.
+/// Lists the faults of the entities as a whole, if no mistake was found before.
 fn add_unseen(faults: &mut Faults, found: Vec<EntityFault>) -> Result<(), AllocError>
     requires { lists_none found.items ≡ false }
     ensures { OnOk result (has_none faults.new ≡ false) }

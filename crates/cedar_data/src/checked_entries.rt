@@ -1,4 +1,5 @@
-// One entity at a time, checked by a schema, as a store gives it that does not fit into one text.
+// Single entities, read and checked by a schema one at a time: the form for a store that does not
+// fit into one text.
 ghost use Rattle.std.specs.Prelude.{◌≡◌, length, IfErr, IfOk, IfSome, is_some};
 ghost use Rattle.cedar_types.specs.Names.{uid_of};
 ghost use Rattle.cedar_types.specs.Schemas.Contents.{schema_of};
@@ -19,19 +20,21 @@ use cedar_json::{FormFault, value_alone};
 use cedar_types::base::{EntityUID, Loc, ValidatorSchema};
 use std::alloc::{AllocError, Global};
 
-/// What a text of an entity gives.
+/// The result of reading a text of one entity.
 #[derive(Debug, Drop)]
 pub struct CheckedEntry {
-    /// The entity with its id, where there is no mistake: it is as the schema says.
+    /// The entity with its id, if there is no mistake: it fits the schema.
     pub conforming: Option<(EntityUID, Entity)>,
-    /// The mistakes: none exactly where there is an entity.
+    /// The mistakes: there are none exactly if there is an entity.
     pub faults: Faults,
-    /// The texts that constructors of extension values are given. Whether these can read them is not asked.
+    /// The texts that go to constructors of extension values. The check does not ask whether the
+    /// constructors can read them.
     pub texts: Vec<ExtensionText>,
 }
 
-/// Reads an entity in Cedar's form of JSON, and checks it by a schema. Unlike in a list, its `parents` are all that it is in, at
-/// any distance. The answer is an error where the text is no JSON that is read, or where memory is refused.
+/// Reads an entity in Cedar's JSON form, and checks it by a schema. Unlike in a list, its `parents`
+/// are all entities that it is in, at any distance. The answer is an error if the text is not JSON
+/// that the reader accepts, or if memory is refused.
 pub fn check_entry_text(
     alloc: Global,
     schema: &ValidatorSchema,
@@ -63,7 +66,8 @@ pub fn check_entry_text(
     })
 }
 
-/// The entity, where it is as the schema says and there is no mistake. Where it is not, a mistake is listed.
+/// Returns the entity if it fits the schema and there is no mistake. If it does not fit, a mistake
+/// is listed.
 fn keep_conforming(
     alloc: Global,
     schema: &ValidatorSchema,

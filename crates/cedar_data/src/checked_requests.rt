@@ -1,4 +1,4 @@
-// Requests, checked by a schema.
+// Requests, read and checked by a schema.
 ghost use Rattle.std.specs.Prelude.{◌≡◌, false, length, IfErr, IfOk, IfSome, OnOk, is_some};
 ghost use Rattle.cedar_types.specs.Schemas.Contents.{schema_of};
 ghost use Rattle.cedar_typing.specs.Evaluation.Conformance.{ConformingRequest};
@@ -23,19 +23,19 @@ use std::collections::BTreeMap;
 /// The keys of a request.
 const KEYS: [&str; 4] = ["principal", "action", "resource", "context"];
 
-/// What a text of a request gives.
+/// The result of reading a text of a request.
 #[derive(Debug, Drop)]
 pub struct CheckedRequest {
-    /// The request, where there is no mistake: it is one of those that the schema allows.
+    /// The request, if there is no mistake: the schema allows it.
     pub conforming: Option<Request>,
-    /// The mistakes: none exactly where there is a request.
+    /// The mistakes: there are none exactly if there is a request.
     pub faults: Faults,
-    /// The texts that constructors of extension values are given. Whether these can read them is not asked.
+    /// The texts for constructors of extension values. The check does not try to read them.
     pub texts: Vec<ExtensionText>,
 }
 
-/// Reads a request in Cedar's form of JSON, and checks it by a schema. An id is an object of `type` and `id`, or a text as in a
-/// policy. The answer is an error where the text is no JSON that is read, or where memory is refused.
+/// Reads a request in Cedar's JSON form and checks it by a schema. An id is `{type, id}` or a text
+/// as in a policy. The answer is an error if the text is no readable JSON, or if memory is refused.
 pub fn check_request_text(
     alloc: Global,
     schema: &ValidatorSchema,
@@ -62,8 +62,8 @@ pub fn check_request_text(
     })
 }
 
-/// Reads a request, and answers it where the schema allows it and it has no mistake. Where it is not answered, a mistake is
-/// listed.
+/// Reads a request, and returns it if the schema allows it and it has no mistake. Otherwise a
+/// mistake is listed.
 fn read_conforming(
     schema: &ValidatorSchema,
     collected: &mut Collected<'_>,
@@ -92,7 +92,7 @@ fn read_conforming(
     }
 }
 
-/// Lists that a value is no request, where no part of it has a mistake of its own.
+/// Lists that a value is no request, if no part of it has a mistake of its own.
 fn add_no_request(collected: &mut Collected<'_>, value: &Value) -> Result<(), AllocError>
     ensures { OnOk result (has_none collected.new.faults ≡ false) }
 {
@@ -100,7 +100,7 @@ fn add_no_request(collected: &mut Collected<'_>, value: &Value) -> Result<(), Al
     collected.faults.add_if_none(value.place, problem)
 }
 
-/// Reads a request. Where one of its parts is missing or has another form, there is none.
+/// Reads a request. If a part is missing or has another form, the answer is `None`.
 fn read_request(
     collected: &mut Collected<'_>,
     object: Object<'_>,
@@ -153,7 +153,7 @@ fn read_id(
     Ok(id)
 }
 
-/// The id that a text says as in a policy.
+/// Reads the id in a text that has the form of a policy's ids.
 fn id_in_text(
     collected: &mut Collected<'_>,
     value: &Value,
@@ -190,7 +190,7 @@ fn read_context(
     Ok(Some(read_record(collected, entries, types)?))
 }
 
-/// The attributes of the context that a declared action has.
+/// Returns the attributes of the context of a declared action.
 fn context_attributes<'a>(
     schema: &'a ValidatorSchema,
     action: &EntityUID,
@@ -203,7 +203,7 @@ fn context_attributes<'a>(
     }
 }
 
-/// Lists the mistakes of a request that is none of those that the schema allows, at least its first one.
+/// Lists the mistakes of a request that the schema does not allow, at least its first one.
 fn add_unfit(
     schema: &ValidatorSchema,
     collected: &mut Collected<'_>,
@@ -232,7 +232,7 @@ fn add_fault(
     collected.faults.add(place, Problem::Request(fault))
 }
 
-/// Lists that the action applies to no principal and to no resource of these types.
+/// Lists the types of the principal and the resource to which the action does not apply.
 fn add_unfit_types(
     collected: &mut Collected<'_>,
     request: &Request,
@@ -280,7 +280,7 @@ fn context_in(object: Object<'_>) -> Option<Object<'_>> {
     Object::of(object.get("context")?).ok()
 }
 
-/// The key at which a request has a mistake.
+/// Returns the key at which a request has a fault.
 fn key_of(fault: &RequestFault) -> &'static str {
     match fault {
         RequestFault::UndeclaredAction(_) => "action",
@@ -291,7 +291,7 @@ fn key_of(fault: &RequestFault) -> &'static str {
     }
 }
 
-/// Where the value of a key stands.
+/// Returns the place of the value at a key; without the key, that of the object.
 fn place_at(object: Object<'_>, key: &str) -> Loc {
     match object.get(key) {
         Some(value) => value.place,

@@ -1,4 +1,5 @@
-// The ancestors of listed entities, in topological order by Kahn's algorithm, and the circles that it leaves.
+// Closures: the ancestors of listed entities, in topological order by Kahn's algorithm, and the
+// circles that the algorithm leaves.
 use crate::collected::Collected;
 use crate::faults::Problem;
 use crate::listed::{List, Listed, Parent};
@@ -7,8 +8,8 @@ use cedar_types::base::Loc;
 use std::alloc::{AllocError, Global};
 use std::collections::BTreeMap;
 
-/// Gives each entity of a list its ancestors. Actions that are not listed have those that are declared. Entities that are in a
-/// circle, or below one, get none, and each circle is listed as a mistake.
+/// Gives each entity of a list its ancestors. Actions that the list lacks get their declared ones.
+/// Entities in a circle, or below one, get none, and each circle is listed as a mistake.
 pub(crate) fn add_ancestors(
     collected: &mut Collected<'_>,
     list: &mut List<'_>,
@@ -30,7 +31,7 @@ pub(crate) fn add_ancestors(
     add_cycles(collected, list, &order)
 }
 
-/// Lists that there are too many ancestors, at the entity where that is seen.
+/// Lists that there are too many ancestors, at the entity that exceeds a limit.
 fn add_excess(collected: &mut Collected<'_>, list: &List<'_>, at: usize) -> Result<(), AllocError> {
     let place = match list.entries.get(at) {
         Some(listed) => listed.place,
@@ -39,18 +40,18 @@ fn add_excess(collected: &mut Collected<'_>, list: &List<'_>, at: usize) -> Resu
     collected.faults.add(place, Problem::TooManyAncestors)
 }
 
-/// The entities of a list, each after the listed ones that it is in.
+/// The entities of a list, each after the listed entities that it is in.
 #[derive(Drop)]
 struct Order {
-    /// Of each entity those that have it as a parent.
+    /// The children of each entity: those that have it as a parent.
     children: Vec<Vec<usize>>,
-    /// How many parents of each entity did not come yet.
+    /// The number of parents of each entity that did not come yet.
     waiting: Vec<usize>,
     ready: Vec<usize>,
 }
 
 impl Order {
-    /// All are still to come.
+    /// Starts with all entities still to come.
     fn new(alloc: Global, list: &List<'_>) -> Result<Order, AllocError> {
         let mut order = Order {
             children: Vec::with_capacity(alloc, list.entries.len())?,
@@ -83,7 +84,7 @@ impl Order {
         Ok(())
     }
 
-    /// The next one, if one is ready.
+    /// Takes the next entity, if one is ready.
     fn next(&mut self) -> Result<Option<usize>, AllocError> {
         let Some(at) = self.ready.pop() else {
             return Ok(None);
@@ -98,12 +99,13 @@ impl Order {
         Ok(Some(at))
     }
 
-    /// Whether an entity did not come.
+    /// Returns whether an entity did not come.
     fn is_left(&self, at: usize) -> bool {
         self.waiting.get(at).copied().unwrap_or(0) > 0
     }
 
-    /// A parent of an entity that did not come either, and where it stands in the list. Each entity that is left has one.
+    /// Returns a parent that did not come either, and its place in the list. Each entity that is
+    /// left has one.
     fn parent_left<'a>(
         &self,
         list: &List<'_>,
@@ -120,7 +122,7 @@ impl Order {
     }
 }
 
-/// Counts one parent of an entity as done. Whether it was the last.
+/// Counts one parent of an entity as done. Returns whether it was the last.
 fn ends_wait(waiting: &mut Vec<usize>, at: usize) -> bool {
     match waiting.get_mut(at) {
         Some(count) => {
@@ -131,7 +133,7 @@ fn ends_wait(waiting: &mut Vec<usize>, at: usize) -> bool {
     }
 }
 
-/// Lists circles: each entity that did not come leads to one.
+/// Lists circles. Each entity that did not come leads to one.
 fn add_cycles(
     collected: &mut Collected<'_>,
     list: &List<'_>,
@@ -148,7 +150,8 @@ fn add_cycles(
     Ok(())
 }
 
-/// Goes from an entity from parent to parent, up to one that was seen before: that one, if it was seen on this way.
+/// Walks from parent to parent until an entity was seen before. Returns that entity, if this walk
+/// saw it.
 fn find_repeated(
     list: &List<'_>,
     order: &Order,
@@ -172,7 +175,7 @@ fn find_repeated(
     Ok(None)
 }
 
-/// Lists the circle that goes through an entity, where that names its parent.
+/// Lists the circle through an entity, at the place where the entity names its parent.
 fn add_cycle(
     collected: &mut Collected<'_>,
     list: &List<'_>,

@@ -1,4 +1,4 @@
-// What is found while data is read and checked.
+// Collected findings of the reading and the checks of data.
 ghost use Rattle.std.specs.Prelude.{◌≡◌, true, false, OnOk};
 ghost use Rattle.cedar_data.specs.Faults.{has_more_in, has_none, listed_in};
 
@@ -10,10 +10,11 @@ use std::alloc::{AllocError, Global};
 use std::fmt;
 use std::rc::RcStr;
 
-/// How many mistakes of a text are listed.
+/// The number of mistakes of a text that are listed.
 pub const MAX_FAULTS: usize = 100;
 
-/// The mistakes of a text: those that were found first, and whether there are more. They are shown on one line.
+/// The mistakes of a text: the first ones found, and whether there are more. They display on one
+/// line.
 #[derive(Debug, Drop)]
 pub struct Faults {
     listed: Vec<DataFault>,
@@ -21,7 +22,7 @@ pub struct Faults {
 }
 
 impl Faults {
-    /// None so far.
+    /// Makes the empty list.
     pub fn new(alloc: Global) -> Faults
         ensures none { has_none result ≡ true }
         ensures no_more { has_more_in result ≡ false }
@@ -32,28 +33,28 @@ impl Faults {
         }
     }
 
-    /// The mistakes, at most `MAX_FAULTS`, in the order of their places once all are found.
+    /// Returns the mistakes, at most `MAX_FAULTS`, in the order of their places once all are found.
     pub fn listed(&self) -> &[DataFault]
         ensures { result.now ≡ listed_in self.now }
     {
         self.listed.as_slice()
     }
 
-    /// Whether there are more than are listed.
+    /// Returns whether there are more mistakes than are listed.
     pub fn has_more(&self) -> bool
         ensures { result ≡ has_more_in self.now }
     {
         self.has_more
     }
 
-    /// Whether there is none.
+    /// Returns whether there is no mistake.
     pub fn is_empty(&self) -> bool
         ensures { result ≡ has_none self.now }
     {
         self.listed.is_empty()
     }
 
-    /// Adds a mistake where no other is.
+    /// Adds a mistake, if there is no other.
     pub(crate) fn add_if_none(&mut self, place: Loc, problem: Problem) -> Result<(), AllocError>
         ensures { OnOk result (has_none self.new ≡ false) }
     {
@@ -63,7 +64,7 @@ impl Faults {
         self.add(place, problem)
     }
 
-    /// Adds a mistake. Where memory is refused, nothing changes.
+    /// Adds a mistake. If memory is refused, nothing changes.
     pub(crate) fn add(&mut self, place: Loc, problem: Problem) -> Result<(), AllocError>
         ensures { OnOk result (has_none self.new ≡ false) }
     {
@@ -97,7 +98,7 @@ impl fmt::Display for Faults {
     }
 }
 
-/// A text that a constructor of extension values is given, and where it stands.
+/// A text that goes to a constructor of extension values, and its place.
 #[derive(Debug, Drop)]
 pub struct ExtensionText {
     pub place: Loc,
@@ -105,7 +106,7 @@ pub struct ExtensionText {
     pub text: RcStr,
 }
 
-/// What data is read by, and what was found so far.
+/// The schema that data is read by, and the findings so far.
 #[derive(Drop)]
 pub(crate) struct Collected<'a> {
     pub(crate) alloc: Global,
@@ -115,7 +116,7 @@ pub(crate) struct Collected<'a> {
 }
 
 impl<'a> Collected<'a> {
-    /// Nothing so far.
+    /// Starts without findings.
     pub(crate) fn new(alloc: Global, schema: &'a ValidatorSchema) -> Collected<'a> {
         Collected {
             alloc,
@@ -125,7 +126,8 @@ impl<'a> Collected<'a> {
         }
     }
 
-    /// What was read, or `None` where it has another form than it has to have, which is listed then.
+    /// Returns the value that was read. It lists a value of another form as a mistake, and returns
+    /// `None` for it.
     pub(crate) fn keep<T: Drop>(
         &mut self,
         read: Result<T, FormError>,
@@ -141,7 +143,7 @@ impl<'a> Collected<'a> {
         }
     }
 
-    /// Lists an id that its type, which is enumerated, does not have.
+    /// Lists an id that its enumerated type does not have.
     pub(crate) fn check_id(&mut self, place: Loc, id: &EntityUID) -> Result<(), AllocError> {
         if is_unknown_id(self.schema, id) {
             self.faults.add(place, Problem::UnknownId(id.clone()?))?;
@@ -150,7 +152,7 @@ impl<'a> Collected<'a> {
     }
 }
 
-/// Whether the type of an id is enumerated, and does not have it.
+/// Returns whether the type of an id is enumerated and does not have the id.
 fn is_unknown_id(schema: &ValidatorSchema, id: &EntityUID) -> bool {
     let Some(declared) = schema.get_entity_type(&id.entity_type) else {
         return false;

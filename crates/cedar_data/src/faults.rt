@@ -1,4 +1,4 @@
-// What is wrong with data, and where.
+// Faults of data, and their places.
 use cedar_conformance::entity_faults::EntityFault;
 use cedar_conformance::faults::{Mismatch, Step};
 use cedar_conformance::requests::RequestFault;
@@ -6,7 +6,7 @@ use cedar_json::{FormFault, ReadError};
 use cedar_types::base::{EntityUID, Loc};
 use std::fmt;
 
-/// Whose value has a mistake.
+/// The owner of a value with a mistake.
 #[derive(Debug, Drop)]
 pub enum Owner {
     /// The entity of this id, by its attributes or tags.
@@ -24,22 +24,22 @@ impl fmt::Display for Owner {
     }
 }
 
-/// What is wrong at a place of data.
+/// The mistake at a place of data.
 #[derive(Debug, Drop)]
 pub enum Problem {
-    /// The part is not of the form that it has to have there.
+    /// The part has another form than is expected there.
     Form(FormFault),
-    /// A value is not as the schema says, at the end of these steps from its owner.
+    /// A value does not fit the schema, at the end of these steps from its owner.
     Value(Owner, Vec<Step>, Mismatch),
-    /// An entity is not as the schema says, in another way than by a value.
+    /// An entity does not fit the schema, in another way than by a value.
     Entity(EntityFault),
-    /// A request is not one of those that the schema allows, in another way than by its context.
+    /// The schema does not allow a request, for another reason than its context.
     Request(RequestFault),
-    /// The type of this id is enumerated, and does not have it.
+    /// The type of this id is enumerated, but does not have it.
     UnknownId(EntityUID),
     /// The entity of this id is listed before, at this place.
     SameId(EntityUID, Loc),
-    /// Each of these entities has the next one as a parent, and the last one has the first.
+    /// The entities of a circle: each has the next one as a parent, and the last has the first.
     Cycle(Vec<EntityUID>),
     /// All entities together have more than `MAX_ANCESTORS` ancestors.
     TooManyAncestors,
@@ -72,7 +72,7 @@ impl fmt::Display for Problem {
     }
 }
 
-/// How many entities of a cycle are named.
+/// The number of entities of a cycle that are named.
 const MAX_NAMED: usize = 5;
 
 /// Names the first entities of a cycle, and the first again at its end.
@@ -98,5 +98,6 @@ pub struct DataFault {
     pub problem: Problem,
 }
 
-/// Why a text is no data: it is no JSON that is read, by its first fault and at which byte it stands; or memory was refused.
+/// The reason why a text is no data: its first fault as JSON and the byte at which it stands, or
+/// refused memory.
 pub type DataError = ReadError;

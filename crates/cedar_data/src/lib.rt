@@ -1,5 +1,5 @@
-//! Entities and requests in Cedar's forms of JSON, as values that a schema checks, and each of their
-//! mistakes with the part of the text that has it.
+//! Entities and requests in Cedar's JSON forms, read as values that a schema checks. Each mistake
+//! has its part of the text.
 #![tactic(auto)]
 
 mod checked_entities;

@@ -1,4 +1,4 @@
-// Entities as they are listed in a text.
+// Listed entities: the entities of a text, as they are read.
 ghost use Rattle.std.specs.Prelude.{length, IfErr};
 ghost use Rattle.cedar_json.specs.Cursors.{IsFaultWithin};
 
@@ -18,16 +18,16 @@ use std::collections::BTreeMap;
 /// The keys of an entity.
 const KEYS: [&str; 4] = ["uid", "attrs", "parents", "tags"];
 
-/// A part of a text, which is a value.
+/// A part of a text that is a value.
 #[derive(Clone, Copy)]
 pub(crate) struct Part<'a> {
     pub(crate) text: &'a str,
-    /// At which byte it begins.
+    /// The byte at which the part begins.
     pub(crate) start: usize,
 }
 
 impl Part<'_> {
-    /// The value, which was read before; `None` where it cannot be read.
+    /// Reads the value, which was read before; `None` if it cannot be read.
     pub(crate) fn read_again(self, alloc: Global) -> Result<Option<Value>, AllocError> {
         match value_at(alloc, self.text, self.start, MAX_DEPTH) {
             Ok(value) => Ok(Some(value)),
@@ -37,20 +37,21 @@ impl Part<'_> {
     }
 }
 
-/// A parent of an entity, and where it is named.
+/// A parent of an entity, and the place of its name.
 #[derive(Drop)]
 pub(crate) struct Parent {
     pub(crate) id: EntityUID,
     pub(crate) place: Loc,
 }
 
-/// An entity of a list. What is stored of it has no ancestors yet.
+/// An entity of a list. Its stored data has no ancestors yet.
 #[derive(Drop)]
 pub(crate) struct Listed<'a> {
     pub(crate) id: EntityUID,
-    /// Where its id stands.
+    /// The place of its id.
     pub(crate) place: Loc,
-    /// All that is written of it. It is read again for its mistakes, so that those without any keep no tree of their text.
+    /// The whole text of the entity. It is read again for mistakes, so that entities without any
+    /// keep no tree of their text.
     pub(crate) part: Part<'a>,
     pub(crate) entity: Entity,
     pub(crate) parents: Vec<Parent>,
@@ -60,13 +61,13 @@ pub(crate) struct Listed<'a> {
 #[derive(Drop)]
 pub(crate) struct List<'a> {
     pub(crate) entries: Vec<Listed<'a>>,
-    /// Which of the entries has which id.
+    /// The number of the entry for each id.
     pub(crate) places: BTreeMap<EntityUID, usize>,
 }
 
 impl<'a> List<'a> {
-    /// Reads the entities of a list, and lists what has another form than it has to have. The tree of one entity is dropped
-    /// before the next one is read.
+    /// Reads the entities of a list, and lists values of another form than expected. It drops the
+    /// tree of one entity before it reads the next.
     pub(crate) fn read(collected: &mut Collected<'_>, text: &'a str) -> Result<List<'a>, DataError>
         ensures { IfErr result (λ e. IsFaultWithin (length text.now) e) }
     {
@@ -87,7 +88,7 @@ impl<'a> List<'a> {
         Ok(list)
     }
 
-    /// Adds the entity that an item of the text is.
+    /// Adds the entity of an item of the text.
     fn read_item(
         &mut self,
         collected: &mut Collected<'_>,
@@ -100,7 +101,7 @@ impl<'a> List<'a> {
         }
     }
 
-    /// Adds an entity, unless there is one of its id.
+    /// Adds an entity, unless the list has one of its id.
     fn add(&mut self, collected: &mut Collected<'_>, listed: Listed<'a>) -> Result<(), AllocError> {
         if let Some(first) = self.get(&listed.id) {
             let problem = Problem::SameId(listed.id.clone()?, first.place);
@@ -111,7 +112,7 @@ impl<'a> List<'a> {
         Ok(())
     }
 
-    /// The entity of this id.
+    /// Returns the entity of this id.
     pub(crate) fn get(&self, id: &EntityUID) -> Option<&Listed<'a>> {
         self.entries.get(*self.places.get(id)?)
     }
@@ -127,7 +128,8 @@ fn add_no_list(collected: &mut Collected<'_>, text: &str) -> Result<(), DataErro
     Ok(())
 }
 
-/// Reads an entity whose parents are all that it is in. Without an id there is none.
+/// Reads an entity whose parents are all entities that it is in. Without an id the answer is
+/// `None`.
 pub(crate) fn read_stored<'a>(
     collected: &mut Collected<'_>,
     text: &'a str,
@@ -143,7 +145,7 @@ pub(crate) fn read_stored<'a>(
     Ok(Some(listed))
 }
 
-/// Reads an entity of a text. Without an id there is none.
+/// Reads an entity of a text. Without an id the answer is `None`.
 fn read_listed<'a>(
     collected: &mut Collected<'_>,
     text: &'a str,
@@ -181,7 +183,7 @@ fn read_listed<'a>(
     }))
 }
 
-/// Lists the keys that an entity does not have.
+/// Lists the keys that an entity may not have.
 fn check_keys(collected: &mut Collected<'_>, object: Object<'_>) -> Result<(), AllocError> {
     for (key, _) in object.entries {
         if !KEYS.iter().any(|own| *own == key.name.as_str()) {
@@ -256,7 +258,7 @@ fn read_parents(
     Ok(parents)
 }
 
-/// The types of the attributes of an entity, where its type declares them.
+/// Returns the types of the attributes of an entity, if its type declares them.
 pub(crate) fn attribute_types<'a>(schema: &'a ValidatorSchema, id: &EntityUID) -> Types<'a> {
     let Some(declared) = schema.get_entity_type(&id.entity_type) else {
         return Types::Unknown;
@@ -268,7 +270,7 @@ pub(crate) fn attribute_types<'a>(schema: &'a ValidatorSchema, id: &EntityUID) -
     }
 }
 
-/// The type of the tags of an entity, where its type declares one.
+/// Returns the type of the tags of an entity, if its type declares one.
 pub(crate) fn tag_types<'a>(schema: &'a ValidatorSchema, id: &EntityUID) -> Types<'a> {
     let Some(declared) = schema.get_entity_type(&id.entity_type) else {
         return Types::Unknown;

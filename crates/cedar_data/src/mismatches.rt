@@ -1,4 +1,4 @@
-// All places where a value is not as its type says.
+// Mismatches: all places at which a value does not fit its type.
 use crate::collected::Faults;
 use crate::faults::{Owner, Problem};
 use cedar_conformance::faults::{Mismatch, Step, ValueKind};
@@ -9,18 +9,18 @@ use std::alloc::{AllocError, Global};
 use std::collections::BTreeMap;
 use std::rc::RcStr;
 
-/// The mistakes of the values of an owner, and the way to the value that is looked at.
+/// The mistakes of the values of an owner, and the steps to the current value.
 #[derive(Drop)]
 pub(crate) struct Mismatches<'a> {
     alloc: Global,
     faults: &'a mut Faults,
-    /// The entity whose values they are; without one, they are those of a context.
+    /// The entity that owns the values; without one, they are those of a context.
     entity: Option<&'a EntityUID>,
     steps: Vec<Step>,
 }
 
 impl<'a> Mismatches<'a> {
-    /// At the owner itself.
+    /// Starts at the owner itself.
     pub(crate) fn new(
         alloc: Global,
         faults: &'a mut Faults,
@@ -34,18 +34,18 @@ impl<'a> Mismatches<'a> {
         }
     }
 
-    /// Goes to a part of the value.
+    /// Enters a part of the value.
     fn enter(&mut self, step: Step) -> Result<(), AllocError> {
         self.steps.push(step)?;
         Ok(())
     }
 
-    /// Goes back to the whole.
+    /// Leaves the part.
     fn leave(&mut self) {
         drop(self.steps.pop());
     }
 
-    /// Lists a mistake of the value that is looked at.
+    /// Lists a mistake of the current value.
     fn add(&mut self, place: Loc, mismatch: Mismatch) -> Result<(), AllocError> {
         let owner = match self.entity {
             Some(id) => Owner::Entity(id.clone()?),
@@ -67,7 +67,7 @@ impl<'a> Mismatches<'a> {
         Ok(())
     }
 
-    /// Lists the mistakes of a value that stands here in the text.
+    /// Lists the mistakes of the value that stands at this place in the text.
     #[cycle(mismatches)]
     pub(crate) fn add_in_value(
         &mut self,
@@ -116,8 +116,8 @@ impl<'a> Mismatches<'a> {
         Ok(())
     }
 
-    /// Lists the mistakes of the attributes of a record. One that stands in the text and is not among its values could not be
-    /// read, and is listed already.
+    /// Lists the mistakes of the attributes of a record. An attribute that stands in the text but
+    /// not among the values is skipped, because the reader listed it already.
     #[cycle(mismatches)]
     pub(crate) fn add_in_record(
         &mut self,
@@ -146,7 +146,7 @@ impl<'a> Mismatches<'a> {
         }
     }
 
-    /// Lists an attribute of this name and type that is not there.
+    /// Lists a missing attribute of this name and type.
     fn add_missing(
         &mut self,
         name: &RcStr,
@@ -191,7 +191,8 @@ impl<'a> Mismatches<'a> {
     }
 }
 
-/// The values of an object by their keys, so that each attribute is found without a look at the others.
+/// Returns the values of an object by their keys, so that finding an attribute does not scan the
+/// others.
 fn by_key<'a>(
     alloc: Global,
     object: Object<'a>,
@@ -211,7 +212,8 @@ fn copy_step(step: &Step) -> Result<Step, AllocError> {
     }
 }
 
-/// Whether a value has a type, where neither is a set with a type of its members nor a record.
+/// Returns whether a value has a type. For a record type, or a set type with a type of its members,
+/// the answer is false.
 fn is_of_flat_type(ty: &CedarType, value: &Value) -> bool {
     match (ty, value) {
         (CedarType::Bool(kind), Value::Bool(truth)) => match kind {

@@ -1,4 +1,4 @@
-// The ids of a list of entities by numbers, in their order.
+// Numbers for the ids of a list of entities, in the order of the ids.
 use crate::listed::List;
 use crate::reached::Ancestors;
 use cedar_conformance::ids::Ids;
@@ -7,8 +7,8 @@ use std::alloc::{AllocError, Global};
 use std::collections::BTreeSet;
 use std::rc::Rc;
 
-/// The ids of listed entities and of their parents, and those that parents are declared to be in. The number of an id is its
-/// place in their order.
+/// The ids of listed entities and of their parents, and the ids that the parents are declared to be
+/// in. The number of an id is its place in their order.
 #[derive(Drop)]
 pub(crate) struct Numbers {
     pub(crate) alloc: Global,
@@ -16,7 +16,7 @@ pub(crate) struct Numbers {
 }
 
 impl Numbers {
-    /// The ids of a list. Each is copied once.
+    /// Collects the ids of a list. It copies each id once.
     pub(crate) fn new(
         alloc: Global,
         list: &List<'_>,
@@ -26,7 +26,7 @@ impl Numbers {
         for listed in &list.entries {
             add_id(&mut known, &listed.id)?;
             for parent in &listed.parents {
-                // A known id needs no second look: declared ancestors have all that these are declared to be in.
+                // A known id needs no second look, because its declared ancestors are known too.
                 if add_id(&mut known, &parent.id)? && !list.places.contains_key(&parent.id) {
                     add_declared(&mut known, declared, &parent.id)?;
                 }
@@ -39,17 +39,17 @@ impl Numbers {
         Ok(Numbers { alloc, ids })
     }
 
-    /// How many ids there are.
+    /// Returns the number of ids.
     pub(crate) fn len(&self) -> usize {
         self.ids.len()
     }
 
-    /// The number of an id, if it is one of them.
+    /// Returns the number of an id, if it is one of them.
     pub(crate) fn number_of(&self, id: &EntityUID) -> Option<usize> {
         self.ids.binary_search_by(|own| (**own).cmp(id)).ok()
     }
 
-    /// The id of a number.
+    /// Returns the id of a number.
     pub(crate) fn id_at(&self, number: usize) -> Option<&EntityUID> {
         match self.ids.get(number) {
             Some(id) => Some(&**id),
@@ -57,7 +57,7 @@ impl Numbers {
         }
     }
 
-    /// The numbers of either list, ascending and each once.
+    /// Returns the numbers of both lists, in ascending order and each once.
     pub(crate) fn sorted(&self, some: &[usize], more: &[usize]) -> Result<Vec<usize>, AllocError> {
         let mut sorted = Vec::with_capacity(self.alloc, some.len().saturating_add(more.len()))?;
         for number in some {
@@ -71,7 +71,7 @@ impl Numbers {
         Ok(sorted)
     }
 
-    /// The ids of these numbers.
+    /// Returns the ids of these numbers.
     pub(crate) fn ids_at(&self, numbers: &[usize]) -> Result<Ids, AllocError> {
         let mut ids = Ids::new(self.alloc);
         ids.reserve(numbers.len())?;
@@ -98,7 +98,7 @@ fn add_declared(
     Ok(())
 }
 
-/// Adds an id. Whether it was not there.
+/// Adds an id. Returns whether it is new.
 fn add_id(known: &mut BTreeSet<EntityUID>, id: &EntityUID) -> Result<bool, AllocError> {
     if known.contains(id) {
         return Ok(false);

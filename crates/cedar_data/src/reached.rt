@@ -1,9 +1,11 @@
-// All that the entities of a list are in: the transitive closure of a graph without circles, by Goralčíková and Koubek.
+// Ancestors of all entities of a list: the transitive closure of a graph without circles, by
+// Goralčíková and Koubek.
 //
-// The entities come in topological order. What the parent with the most ancestors is in is taken over from it. From the other
-// parents a walk goes upwards, which ends where something is reached already. A parent that another one reaches adds nothing,
-// so that no later walk goes along this edge. An entity takes as many steps as it has ancestors, and one for each edge that goes
-// up from an ancestor that its first parent lacks.
+// The entities come in topological order. An entity takes over all ancestors of the parent with the
+// most. A walk goes upwards from each other parent, and ends at ids that are reached already. A
+// parent that another parent reaches adds nothing, and no later walk goes along its edge. An entity
+// takes as many steps as it has ancestors, and one for each edge that goes up from an ancestor that
+// its first parent lacks.
 use crate::listed::{List, Listed};
 use crate::numbers::Numbers;
 use crate::walks::{Marks, Node};
@@ -12,27 +14,28 @@ use cedar_types::base::EntityUID;
 use std::alloc::{AllocError, Global};
 use std::collections::BTreeMap;
 
-/// How many ancestors the entities of a text may have, all together.
+/// The number of ancestors that the entities of a text may have together.
 pub const MAX_ANCESTORS: usize = 4_000_000;
 
-/// Ids by ids.
+/// The ancestors of each id.
 pub(crate) type Ancestors = BTreeMap<EntityUID, Ids>;
 
-/// The entities of a list, by numbers.
+/// The entities of a list and their parents, by numbers.
 #[derive(Drop)]
 pub(crate) struct Graph {
     numbers: Numbers,
     /// The entities in the order of the list.
     entries: Vec<usize>,
-    /// By number; an id that is not listed has no parents.
+    /// The nodes by number; an id that is not listed has no parents.
     nodes: Vec<Node>,
     marks: Marks,
-    /// How many more ancestors there may be.
+    /// The number of further ancestors that fit the limit.
     room: usize,
 }
 
 impl Graph {
-    /// The entities of a list with their parents. A parent that is not listed is in the ids that it is declared to be in.
+    /// Builds the graph of a list. A parent that is not listed brings the ids that it is declared
+    /// to be in.
     pub(crate) fn new(
         alloc: Global,
         list: &List<'_>,
@@ -62,8 +65,8 @@ impl Graph {
         })
     }
 
-    /// All that the entity at this place of the list is in, behind a call for each of its listed parents. Where that, or the
-    /// way to it, is too much, there is none.
+    /// Returns all ids that the entity at this place of the list is in. You must call it for each
+    /// listed parent first. If the ids, or the steps to them, are too many, the answer is `None`.
     pub(crate) fn close(&mut self, at: usize) -> Result<Option<Ids>, AllocError> {
         let number = self.entries.get(at).copied().unwrap_or(0);
         let closed = self.closed(number)?;
@@ -82,7 +85,7 @@ impl Graph {
         Ok(Some(ids))
     }
 
-    /// An entity with all that it is in.
+    /// Returns a node with all ids that the entity is in.
     fn closed(&mut self, number: usize) -> Result<Node, AllocError> {
         let alloc = self.numbers.alloc;
         let mut closed = Node::new(alloc);
@@ -112,7 +115,7 @@ impl Graph {
     }
 }
 
-/// The parents of a listed entity.
+/// Returns the node of a listed entity, with its parents.
 fn node_of(
     numbers: &Numbers,
     list: &List<'_>,
@@ -162,7 +165,8 @@ fn add_other(
     Ok(())
 }
 
-/// Some entities with their sizes, in the order of these. An entity is larger than each that it is in.
+/// Returns the parents with their sizes, in ascending order. An entity is larger than each that it
+/// is in.
 fn by_size(
     alloc: Global,
     nodes: &[Node],

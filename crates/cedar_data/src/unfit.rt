@@ -1,4 +1,4 @@
-// The mistakes of entities that are not as a schema says.
+// Unfit entities: the mistakes of the entities that do not fit a schema.
 use crate::collected::Collected;
 use crate::faults::Problem;
 use crate::listed::{List, Listed, attribute_types, tag_types};
@@ -10,7 +10,7 @@ use cedar_json::Object;
 use cedar_types::base::{EntityUID, Loc, OpenTag, ValidatorSchema};
 use std::alloc::AllocError;
 
-/// Lists the mistakes of the entities that are not as the schema says.
+/// Lists the mistakes of the entities that do not fit the schema.
 pub(crate) fn add_unfit(collected: &mut Collected<'_>, list: &List<'_>) -> Result<(), AllocError> {
     for listed in &list.entries {
         if collected.faults.has_more() {
@@ -21,7 +21,7 @@ pub(crate) fn add_unfit(collected: &mut Collected<'_>, list: &List<'_>) -> Resul
     Ok(())
 }
 
-/// Lists the mistakes of an entity that is not as the schema says.
+/// Lists the mistakes of an entity, if it does not fit the schema.
 pub(crate) fn add_unfit_one(
     collected: &mut Collected<'_>,
     listed: &Listed<'_>,
@@ -33,7 +33,7 @@ pub(crate) fn add_unfit_one(
     }
 }
 
-/// Lists the mistakes of an entity whose first one this is.
+/// Lists the mistakes of an entity whose first problem is `problem`.
 fn add_problems(
     collected: &mut Collected<'_>,
     listed: &Listed<'_>,
@@ -71,7 +71,7 @@ fn add_problem(
     collected.faults.add(place, problem)
 }
 
-/// Where an entity is not as the schema says.
+/// Returns the place of a problem of an entity.
 fn place_of(listed: &Listed<'_>, object: Object<'_>, problem: &EntityProblem) -> Loc {
     match problem {
         EntityProblem::HasAttributes => place_of_key(listed, object, "attrs"),
@@ -83,7 +83,7 @@ fn place_of(listed: &Listed<'_>, object: Object<'_>, problem: &EntityProblem) ->
     }
 }
 
-/// Where a key of an entity stands, or else its id.
+/// Returns the place of a key of an entity; without the key, that of the entity's id.
 fn place_of_key(listed: &Listed<'_>, object: Object<'_>, name: &str) -> Loc {
     for (key, _) in object.entries {
         if key.name.as_str() == name {
@@ -132,12 +132,13 @@ fn add_in_tags(
     add_problem(collected, listed, place, EntityProblem::UndeclaredTags)
 }
 
-/// The object at a key, if there is one.
+/// Returns the object at a key, if there is one.
 fn object_at<'a>(object: Object<'a>, name: &str) -> Option<Object<'a>> {
     Object::of(object.get(name)?).ok()
 }
 
-/// Lists the parents that an entity of this type may not have. An ancestor that is none of them is its parent's mistake.
+/// Lists the parents that an entity of this type may not have. A forbidden ancestor that is no
+/// parent is a mistake of the parent.
 fn add_in_parents(collected: &mut Collected<'_>, listed: &Listed<'_>) -> Result<(), AllocError> {
     for parent in &listed.parents {
         if !may_be_in(collected.schema, &listed.id, &parent.id) {
@@ -155,7 +156,8 @@ fn may_be_in(schema: &ValidatorSchema, id: &EntityUID, parent: &EntityUID) -> bo
     }
 }
 
-/// Lists the parents that an action is not declared to be in. Where each is declared, the mistake that this is stays.
+/// Lists the parents that an action is not declared to be in. If all are declared, it lists
+/// `problem`.
 fn add_in_action(
     collected: &mut Collected<'_>,
     listed: &Listed<'_>,

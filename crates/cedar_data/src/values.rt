@@ -1,5 +1,5 @@
-// Values of JSON as the values that they say. The type that the schema has for a value decides between its forms: without one an
-// object is a record, unless its key is `__entity` or `__extn`.
+// Values of JSON, read as values of Cedar. The schema's type of a value decides between its forms:
+// without a type, an object is a record, unless its key is `__entity` or `__extn`.
 use crate::collected::{Collected, ExtensionText};
 use cedar_conformance::values::{Record, Value};
 use cedar_extensions::checks::Constructor;
@@ -9,10 +9,10 @@ use std::alloc::AllocError;
 use std::collections::BTreeMap;
 use std::rc::RcStr;
 
-/// What is expected in place of the name of another function.
+/// The expected function names, for the fault of any other name.
 const CONSTRUCTOR: &str = "`ip`, `decimal`, `datetime` or `duration`";
 
-/// Reads a value, of which the schema has this type.
+/// Reads a value, which has this type by the schema.
 #[cycle(read_values)]
 pub(crate) fn read_value(
     value: &cedar_json::Value,
@@ -62,7 +62,7 @@ fn read_fields(
     Ok(Value::Record(fields))
 }
 
-/// Reads the entries of an object as a record, and lists those that have another form than they have to have.
+/// Reads the entries of an object as a record, and lists the entries of another form than expected.
 pub(crate) fn read_record(
     collected: &mut Collected<'_>,
     object: Object<'_>,
@@ -78,14 +78,14 @@ pub(crate) fn read_record(
     Ok(fields)
 }
 
-/// The types that the entries of a record have by the schema.
+/// The types of the entries of a record, by the schema.
 #[derive(Clone, Copy)]
 pub(crate) enum Types<'a> {
-    /// They are not known.
+    /// The types are not known.
     Unknown,
-    /// Each of its own.
+    /// Each entry has its own type.
     Attributes(&'a Attributes),
-    /// All the same.
+    /// All entries have one type.
     Tags(&'a CedarType),
 }
 
@@ -99,7 +99,7 @@ impl<'a> Types<'a> {
     }
 }
 
-/// What an object says.
+/// The form of an object.
 #[derive(Clone, Copy)]
 enum ObjectForm<'a> {
     Entity,
@@ -108,7 +108,7 @@ enum ObjectForm<'a> {
     Record,
 }
 
-/// What an object says where a value of this type belongs.
+/// Returns the form of an object that stands in the place of a value of this type.
 fn object_form<'a>(
     value: &'a cedar_json::Value,
     ty: Option<&CedarType>,
@@ -146,7 +146,8 @@ fn read_entity(
     Ok(Value::EntityUID(id))
 }
 
-/// Reads a call of a constructor of extension values, on a text as `arg`, or as the one item of `args`.
+/// Reads a call of a constructor of extension values, on a text as `arg`, or as the only item of
+/// `args`.
 fn read_call(collected: &mut Collected<'_>, call: Object<'_>) -> Result<Value, FormError> {
     call.allow(&["fn", "arg", "args"])?;
     let function = call.need("fn")?;
@@ -164,7 +165,7 @@ fn read_call(collected: &mut Collected<'_>, call: Object<'_>) -> Result<Value, F
     Ok(Value::Extension { type_name, text })
 }
 
-/// What a constructor is called on.
+/// Returns the argument of a constructor call.
 fn argument_of(call: Object<'_>) -> Result<&cedar_json::Value, FormError> {
     let Some(arguments) = call.get("args") else {
         return call.need("arg");
@@ -178,7 +179,7 @@ fn argument_of(call: Object<'_>) -> Result<&cedar_json::Value, FormError> {
     }
 }
 
-/// What a text says: the value of an extension type where one belongs, and else itself.
+/// Returns the value of a text: an extension value if one belongs there, and otherwise the text.
 fn text_or_extension(
     collected: &mut Collected<'_>,
     value: &cedar_json::Value,
@@ -202,7 +203,7 @@ fn text_or_extension(
     })
 }
 
-/// The type of the members of a set of this type, if it is known.
+/// Returns the type of the members of a set of this type, if it is known.
 fn element_type(ty: Option<&CedarType>) -> Option<&CedarType> {
     match ty {
         Some(CedarType::Set(element)) => Some(element),
@@ -210,7 +211,7 @@ fn element_type(ty: Option<&CedarType>) -> Option<&CedarType> {
     }
 }
 
-/// The attributes of a record of this type, if they are known.
+/// Returns the attributes of a record of this type, if they are known.
 fn attributes_in(ty: Option<&CedarType>) -> Option<&Attributes> {
     match ty {
         Some(CedarType::Record { attributes, .. }) => Some(attributes),

@@ -1,24 +1,26 @@
 // Walks upwards over the entities of a list.
 use std::alloc::{AllocError, Global};
 
-/// How many steps the walks of a text may take, all together. It bounds the time where many edges lead to the same ancestors.
+/// The number of steps that the walks of a text may take together. It bounds the time if many edges
+/// lead to the same ancestors.
 const MAX_STEPS: usize = 256_000_000;
 
-/// An entity of a list, and all ids by their numbers.
+/// The node of an entity: parents and ancestors by their numbers.
 #[derive(Drop)]
 pub(crate) struct Node {
-    /// The listed parents. Once the entity is closed, those are left that no other one reaches, each once.
+    /// The listed parents. After the entity is closed, each parent that no other parent reaches,
+    /// once.
     pub(crate) parents: Vec<usize>,
-    /// The other parents, and the ids that these are declared to be in.
+    /// The other parents, and the ids that they are declared to be in.
     pub(crate) others: Vec<usize>,
-    /// The listed entities that are reached by parents, once the entity is closed.
+    /// The listed entities that the parents reach, after the entity is closed.
     pub(crate) above: Vec<usize>,
-    /// The other ids that the entity is in, once it is closed.
+    /// The other ids that the entity is in, after it is closed.
     pub(crate) beyond: Vec<usize>,
 }
 
 impl Node {
-    /// An entity without parents.
+    /// Makes a node without parents.
     pub(crate) fn new(alloc: Global) -> Node {
         Node {
             parents: Vec::new(alloc),
@@ -28,13 +30,14 @@ impl Node {
         }
     }
 
-    /// How much there is to take over from the entity.
+    /// Returns the number of ids to take over from the entity.
     pub(crate) fn size(&self) -> usize {
         self.above.len().saturating_add(self.beyond.len())
     }
 }
 
-/// For which entity each id was reached last, so that no set has to be emptied between two entities.
+/// The entity for which each id was reached last, so that no set has to be emptied between two
+/// entities.
 #[derive(Drop)]
 pub(crate) struct Marks {
     alloc: Global,
@@ -42,12 +45,12 @@ pub(crate) struct Marks {
     reached: Vec<usize>,
     /// The entity for which an id was met among others.
     met: Vec<usize>,
-    /// How many more steps there may be, if there were not too many.
+    /// The number of further steps; `None` if there were too many.
     steps: Option<usize>,
 }
 
 impl Marks {
-    /// So many ids, none of which is marked for an entity: the number of them is no entity's.
+    /// Makes marks for `count` ids. No id is marked, because `count` is the number of no entity.
     pub(crate) fn new(alloc: Global, count: usize) -> Result<Marks, AllocError> {
         let mut marks = Marks {
             alloc,
@@ -62,17 +65,17 @@ impl Marks {
         Ok(marks)
     }
 
-    /// Marks a listed id for an entity. Whether it was not marked for it.
+    /// Marks a listed id for an entity. Returns whether the mark is new.
     pub(crate) fn reaches(&mut self, entity: usize, id: usize) -> bool {
         marks_first(&mut self.reached, entity, id)
     }
 
-    /// Marks another id for an entity. Whether it was not marked for it.
+    /// Marks another id for an entity. Returns whether the mark is new.
     pub(crate) fn meets(&mut self, entity: usize, id: usize) -> bool {
         marks_first(&mut self.met, entity, id)
     }
 
-    /// Whether there were not too many steps.
+    /// Returns whether the steps did not exceed the limit.
     pub(crate) fn has_steps(&self) -> bool {
         self.steps.is_some()
     }
@@ -84,7 +87,7 @@ impl Marks {
         };
     }
 
-    /// Adds all that a closed parent is in.
+    /// Adds all ids that a closed parent is in.
     pub(crate) fn take_over(
         &mut self,
         entity: usize,
@@ -107,7 +110,8 @@ impl Marks {
         Ok(())
     }
 
-    /// Adds all that a closed entity is in, upwards until something is marked: that was reached with all above it.
+    /// Adds all ids that a closed entity is in. The walk ends at marked ids, because all above them
+    /// is reached.
     pub(crate) fn walk(
         &mut self,
         entity: usize,
@@ -128,7 +132,7 @@ impl Marks {
         Ok(())
     }
 
-    /// Adds an entity's parents, and puts those on the stack that are listed and were not marked.
+    /// Adds an entity's parents, and puts the listed ones that were not marked on the stack.
     fn step(
         &mut self,
         entity: usize,
@@ -152,7 +156,7 @@ impl Marks {
     }
 }
 
-/// Marks an id for an entity. Whether it was not marked for it.
+/// Marks an id for an entity. Returns whether the mark is new.
 fn marks_first(marks: &mut Vec<usize>, entity: usize, id: usize) -> bool {
     match marks.get_mut(id) {
         Some(mark) if *mark != entity => {
