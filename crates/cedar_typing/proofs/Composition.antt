@@ -1,4 +1,4 @@
--- What the checks of a template in its environments say together.
+-- Conclusions from the checks of a template in all its environments.
 pub mod Links
 pub mod SlotTests
 pub mod Slots

@@ -1,4 +1,5 @@
--- In Strict and in Permissive, what fails without being cut has at least one error, where nothing is unknown.
+-- Silence: in Strict and in Permissive, a failure that is not cut has an error, if nothing is
+-- unknown.
 pub mod Parts
 pub mod Eager
 pub mod Branches

@@ -1,4 +1,4 @@
--- What has a type does not go wrong.
+-- Type soundness: a typed expression does not go wrong.
 pub mod Parts
 pub mod Capabilities
 pub mod Tests

@@ -64,7 +64,7 @@ pub data OperandsAnswer (Js : Judgments) : Operands → List Finding → Type 0 
       → OperandsAnswer Js (all_typed succeeded xs) es
   one_is_cut : {xs : List TypedTree} {es : List Finding} → Js.break xs es → OperandsAnswer Js (cut_after xs) es
 
--- from the errors es on, the result of the operands and the errors that are added
+-- the result of the operands, and the errors that are added to the errors es
 pub record OperandsFound (Js : Judgments) (o : OperandsAndErrors) (es : List Finding) : Type 0 where
   pub results : Operands
   pub added : List Finding

@@ -20,7 +20,7 @@ pub data Answers (J : Judgment) : Answer → List Finding → Type 0 where
   a_recovered : {e : TypedTree} {es : List Finding} → J.recovers e es → Answers J (failure e) es
   a_cut : {es : List Finding} → J.cuts es → Answers J limit es
 
--- from the errors es on, the answer of the rules and the errors that are added
+-- the answer of the rules, and the errors that are added to the errors es
 pub record Found (J : Judgment) (o : AnswerAndErrors) (es : List Finding) : Type 0 where
   pub answer : Answer
   pub added : List Finding
@@ -43,7 +43,7 @@ pub data PartAnswer (H : Giving) (C : Cut) : Option Part → List Finding → Ty
       → PartAnswer H C (Some (part_with succeeded c e)) es
   is_cut : {es : List Finding} → C es → PartAnswer H C None es
 
--- from the errors es on, the result of a part and the errors that are added
+-- the result of a part, and the errors that are added to the errors es
 pub record PartFound (H : Giving) (C : Cut) (o : PartAndErrors) (es : List Finding) : Type 0 where
   pub operand : Option Part
   pub added : List Finding
@@ -111,7 +111,8 @@ module _ (env : TypeEnv) (ts : List Ty) (l : Option Loc) (J : Judgment) where
   good_operand c e es m (accepted t p n h) = good_part c e es t m n h p
 
 module _ (J : Judgment) where
-  -- an answer from the errors es0 is one from the errors es, if the errors between them were added before
+  -- an answer from the errors es0 is one from the errors es, if the errors between them were added
+  -- before
   pub later : (o : AnswerAndErrors) (es0 es before : List Finding) → es0 ≡ es ++ before → (a : Answer)
       (added : List Finding) → o ≡ (a, es0 ++ added) → Answers J a (before ++ added) → Found J o es
   later o es0 es before b a added e r =

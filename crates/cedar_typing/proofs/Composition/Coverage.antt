@@ -1,4 +1,5 @@
--- Where the scope is true, the slots are bound to entities of types that the slots are linked to.
+-- Coverage: if the scope is true, the slots are bound to entities of types that the slots are
+-- linked to.
 use Rattle.std.proofs.Common.{◌≡◌, inl, inr, Bool, true, false, true≢false, ◌&&◌, ◌||◌, if◌then◌else◌, List, [], ◌∷◌, filter, Option, Some, None, refl, sym, ◌∙◌, ap, subst}
 use Rattle.std.specs.List.{list_all, list_any}
 use Rattle.cedar_types.specs.declared.base.location.Loc.{Loc}
@@ -43,7 +44,7 @@ module _ {A : Type 0} (p : A → Bool) where
 
 -- ---- the types of requests are declared
 
--- its principal's and its resource's type are known
+-- the types of the environment's principal and resource are known
 abbrev AreKnown : List DeclaredType → DeclaredEnv → Type 0
 AreKnown ts d = (knows_type ts d.principal ≡ true) × (knows_type ts d.resource ≡ true)
 
@@ -95,7 +96,7 @@ named (x ∷ xs) q t e = first (path_eq q x.name) refl (named xs q t) e
     first true k f n = path_same.to q x.name k ∙ ap (λ (y : DeclaredType). y.name) (some_is n)
     first false k f n = f n
 
--- where p is among the descendants of the type q, q is above p
+-- the type q is above p if p is among the descendants of q
 above : (ts : List DeclaredType) (p q : Path) → is_among (descendants_of ts q) p ≡ true → IsOneOf q (types_above ts p)
 above ts p q h = go (type_named ts q) refl
   where
@@ -139,14 +140,14 @@ module _ (s : Schema) (closed : has_external s ≡ false) (store : Store) (confo
   same_type : (u : Uid) → uid_eq v u ≡ true → u.entity_type ≡ v.entity_type
   same_type u e = ap (λ (w : Uid). w.entity_type) (sym (uid_same.to v u e))
 
-  -- what v is in is of a type above its own, or of its own
+  -- each entity that v is in has v's own type, or a type above it
   in_above : (u : Uid) → is_in store v u ≡ true → IsOneOf u.entity_type (slot_types s.types (within to_slot) v.entity_type)
   in_above u h =
       or_cases (uid_eq v u) (has_ancestor (entity_at store v) u) (IsOneOf u.entity_type (slot_types s.types (within to_slot) v.entity_type))
       (λ e. in_right u.entity_type (types_above s.types v.entity_type) (v.entity_type ∷ []) (inl (same_type u e)))
       (λ e. in_left u.entity_type (types_above s.types v.entity_type) (v.entity_type ∷ []) (ancestor_above u (entity_at store v) refl e)) h
 
-  -- ---- what a slot is bound to
+  -- ---- the entity that a slot is bound to
 
   -- the slot is bound to an entity of one of its types
   abbrev IsOfSlotType : Scope → Option Uid → Type 0
@@ -214,7 +215,8 @@ module _ (s : Schema) (closed : has_external s ≡ false) (world : World) (confo
   own_test : (op : BinaryOp) → SlotTest op (variable_value world.request v) → SlotTest op (VEntity own)
   own_test op k = subst (SlotTest op) (sym is) k
 
-  -- where its constraint names the slot and is true, the slot is bound to an entity of one of its types
+  -- the slot is bound to an entity of one of its types, if the variable's constraint names the slot
+  -- and is true
   slot_bound : (c : Scope) → names_slot c ≡ true → IsTrueOutcome (eval world (scope_at l v x c))
       → IsOfSlotType s closed world.store conforms own declared c (world.slots x)
   slot_bound any n k = cc
@@ -259,7 +261,7 @@ coverage s m t world faults closed alone d one fits not_principal not_resource c
 
 -- ---- the own environment, wherever the slots stand
 
--- a declared type is among those of a slot
+-- a declared type is among the types of its own slot, whatever the constraint
 own_of_declared : (ts : List DeclaredType) (c : Scope) (own : Path) → declares_type ts own ≡ true → IsOneOf own (slot_types ts c own)
 own_of_declared ts any own h = declared_name ts own h
 own_of_declared ts (equal r) own h = inl refl

@@ -1,4 +1,4 @@
--- Which slots a template has, and which environments it is checked in.
+-- The slots of a template, and the environments in which it is checked.
 use Rattle.std.proofs.Common.{◌≡◌, inl, Bool, true, false, ◌||◌, List, [], ◌∷◌, map, Option, Some, None, refl, sym, ◌∙◌, ap}
 use Rattle.cedar_types.specs.declared.base.location.Loc.{Loc}
 use Rattle.cedar_types.specs.declared.base.names.slots.SlotId.{SlotId}
@@ -31,7 +31,8 @@ of_rest l x e (Some f) h = ap (λ b. mentions_slot x e || b) (h x) ∙ or_none (
     or_none true = refl
     or_none false = refl
 
--- where slots stand in the scope alone, a slot occurs where its variable's constraint names it
+-- a template has a slot exactly if the variable's constraint names it, if slots stand in the scope
+-- alone
 pub has_principal : (t : PlainTemplate) → SlotsInScopeAlone t → has_slot SlotId.Principal t ≡ names_slot t.principal
 has_principal t h = of_rest t.place SlotId.Principal (scope_condition t) t.rest h ∙ principal_slot t
 

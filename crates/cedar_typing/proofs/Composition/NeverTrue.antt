@@ -1,4 +1,4 @@
--- What the check in the own environment says of each world of the request.
+-- Conclusions from the check in the own environment for each world of the request.
 use Rattle.std.proofs.Common.{◌≡◌, Bool, true, false, true≢false, Some, refl, sym}
 use Rattle.cedar_types.specs.declared.base.names.slots.SlotId.{SlotId}
 use Rattle.cedar_types.specs.declared.base.types.BoolType.TheVariants.{False}
@@ -34,20 +34,20 @@ use Rattle.cedar_typing.proofs.Composition.OwnBinding.{condition_most}
 
 -- ---- outcomes
 
--- what is at most another is true only where that is
+-- an outcome that is at most another is true only if the other is
 pub true_most : (U : Type 0) (o o' : Outcome) → IsAtMost U o o' → IsTrueOutcome o → IsTrueOutcome o'
 true_most U o o' itself h = h
 true_most U o o' is_false h = absurd (true≢false (sym h))
 true_most U o o' (unlinked u) h = absurd h
 
--- and of the type False where that is
+-- an outcome that is at most another has the type False if the other has it
 pub found_most : (o o' : Outcome) → IsAtMost ⊥ o o'
     → HasFound (Some (TBool False)) o' → HasFound (Some (TBool False)) o
 found_most o o' itself h = h
 found_most o o' is_false h = refl
 found_most o o' (unlinked u) h = absurd u
 
--- and is a boolean or an allowed failure where that is
+-- an outcome that is at most another is a boolean or an allowed failure if the other is
 pub kept_most : (o o' : Outcome) → IsAtMost ⊥ o o' → IsBooleanOrAllowed o' → IsBooleanOrAllowed o
 kept_most o o' itself h = h
 kept_most o o' is_false h = (tt, tt)
@@ -86,7 +86,7 @@ module _ (s : Setting) (t : PlainTemplate) (f : IsFaultless s) (d : DeclaredEnv)
   pub own_bound : SlotsBound (own_slots world.request) (condition_of t)
   own_bound = slots_bound (own_slots world.request) (both_bound world.request) (condition_of t)
 
-  -- typing there can be relied on
+  -- typing in the own environment is sound in the world with own slots
   pub own_sounds : Sounds (own_world world) (eval (own_world world) (condition_of t))
       (rules (in_env s (own_env t d)) (condition_of t) no_caps 1)
   own_sounds =
@@ -94,12 +94,12 @@ module _ (s : Setting) (t : PlainTemplate) (f : IsFaultless s) (d : DeclaredEnv)
       f.closed one own_is_world.environment store keeps (condition_of t) own_bound no_caps 1
       (hold_none (own_world world))
 
-  -- what the check promises there
+  -- the check in the own environment keeps its promise in the world with own slots
   own_promise : (v : Verdict) → PolicyChecks (in_env s (own_env t d)) (condition_of t) v
       → Promises v (eval (own_world world) (condition_of t))
   own_promise v c = promised (in_env s (own_env t d)) (condition_of t) (own_world world) own_sounds v c
 
-  -- irrelevant there is never true
+  -- a condition that is irrelevant in the own environment is never true
   own_never : SlotsInScopeAlone t → (v : Verdict) → IsIrrelevant v
       → PolicyChecks (in_env s (own_env t d)) (condition_of t) v → IsTrueOutcome (eval world (condition_of t)) → ⊥
   own_never h v i c k =
@@ -107,7 +107,8 @@ module _ (s : Setting) (t : PlainTemplate) (f : IsFaultless s) (d : DeclaredEnv)
       not_true v (eval (own_world world) (condition_of t)) i (own_promise v c)
       (true_most U (eval world (condition_of t)) (eval (own_world world) (condition_of t)) (condition_most U world t h (λ n. tt)) k)
 
-  -- a boolean or an allowed failure there is one in the given world, where the slots are bound
+  -- a condition that is a boolean or an allowed failure with own slots is one in the given world,
+  -- if the slots are bound there
   pub own_kept : SlotsInScopeAlone t → SlotsBound world.slots (condition_of t)
       → IsBooleanOrAllowed (eval (own_world world) (condition_of t))
       → IsBooleanOrAllowed (eval world (condition_of t))

@@ -1,5 +1,6 @@
--- A condition in a world, and in the same world with each slot bound to its variable's own entity: there the scope's
--- tests of slots are true, and all else is as it was.
+-- The outcome of a condition in a world is at most its outcome with own slots, where each slot is
+-- bound to its variable's own entity: there the scope's tests of slots are true, and all else is as
+-- it was.
 use Rattle.std.proofs.Common.{◌≡◌, Bool, true, false, true≢false, Option, Some, None, refl, sym, ◌∙◌, ap, subst}
 use Rattle.cedar_types.specs.declared.base.location.Loc.{Loc}
 use Rattle.cedar_types.specs.declared.base.names.slots.SlotId.{SlotId}
@@ -33,7 +34,7 @@ both_bound r SlotId.Resource = tt
 abbrev pub own_world : World → World
 own_world world = with_slots world (own_slots world.request)
 
--- ---- an outcome is at most another: it is the same, or false, or an unbound slot where U holds
+-- ---- an outcome is at most another if it equals it, is false, or is an unbound slot while U holds
 
 module _ (U : Type 0) where
   pub data IsAtMost : Outcome → Outcome → Type 0 where
@@ -48,7 +49,7 @@ module _ (U : Type 0) where
   pub same : (o o' : Outcome) → o ≡ o' → IsAtMost o o'
   same o o' e = subst (IsAtMost o) e itself
 
-  -- `&&` keeps it
+  -- `&&` keeps this relation in its right side
   pub right_most : (s : Test) (p p' : Outcome) → IsAtMost p p'
       → IsAtMost (of_test (and_test s (test_of p))) (of_test (and_test s (test_of p')))
   right_most (Says true) p p' itself = itself
@@ -63,7 +64,7 @@ module _ (U : Type 0) where
   and_most o o' p p' is_false h = is_false
   and_most o o' p p' (unlinked u) h = unlinked u
 
-  -- a test of a slot that is true of v is at most what it is where the slot is bound to v
+  -- a slot test that is true of v gives at most the outcome that it gives for a slot bound to v
   pub against : (f : Value → Outcome) (test : Uid → Bool) → ((w : Uid) → f (VEntity w) ≡ Gives (VBool (test w))) → (v : Uid) → test v ≡ true
       → (b : Option Uid) → ((IsBound b → ⊥) → U) → IsAtMost (on_value (bound_outcome b) f) (f (VEntity v))
   against f test is v h None u = unlinked (u (λ k. k))
@@ -89,7 +90,7 @@ module _ (U : Type 0) where
         against (binary_outcome world.store world.functions BinaryOp.In (VEntity v)) (is_in world.store v)
         (λ w. refl) v (itself_in v)
 
-    -- what is said of an expression: where a slot of it is not bound, U holds
+    -- U holds if a slot of the expression is not bound
     abbrev UnboundIs : Source → Type 0
     UnboundIs e = (SlotsBound world.slots e → ⊥) → U
 
@@ -121,7 +122,8 @@ module _ (U : Type 0) where
           and_most (eval world (typed_at l v p)) (eval (own_world world) (typed_at l v p)) _ _ itself
           (own_test BinaryOp.In (within_most own (world.slots x) (λ n. u (λ b. n b.1.1))))
 
-    -- what mentions no slot is the same
+    -- an expression that mentions no slot is at most itself, because both worlds give it one
+    -- outcome
     pub unmentioned : (e : Source) → MentionsNoSlot e → EvalAtMost e
     unmentioned e h =
         same (eval world e) (eval (own_world world) e)

@@ -1,5 +1,5 @@
--- What inference asks of the request environment is asked of its variables and slots alone: all else is the same in any two
--- environments.
+-- Inference asks the request environment for its variables and slots alone: all else is alike in
+-- any two environments.
 use Rattle.std.proofs.Common.{◌≡◌, Bool, true, false, ◌&&◌, if◌then◌else◌, List, [], ◌∷◌, ◌++◌, Option, Some, None, is_some, refl}
 use Rattle.cedar_types.specs.declared.base.errors.type_errors.LubContext.{LubContext}
 use Rattle.cedar_types.specs.declared.base.errors.type_errors.LubContext.TheVariants.{Conditional, Equality, Contains, ContainsAnyAll}

@@ -1,4 +1,5 @@
--- Which expressions are literals or actions is the same in two environments where it is so of the variables.
+-- Two environments agree on which expressions are literals or actions, if they agree on the
+-- variables.
 use Rattle.std.proofs.Common.{◌≡◌, [], ◌∷◌, option_map, refl, ap}
 use Rattle.cedar_types.specs.declared.base.expressions.operators.Var.{Var}
 use Rattle.cedar_types.specs.Expressions.Tree.{var, set_of, Trees, no_trees, tree}

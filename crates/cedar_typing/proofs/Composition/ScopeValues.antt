@@ -1,4 +1,4 @@
--- The scope of a template is a boolean where its slots are bound.
+-- The scope of a template is a boolean if its slots are bound.
 use Rattle.std.proofs.Common.{◌≡◌, Bool, true, false, ◌&&◌, if◌then◌else◌, List, [], ◌∷◌, map, Option, Some, None, refl, ◌∙◌, ap, subst}
 use Rattle.cedar_types.specs.declared.base.location.Loc.{Loc}
 use Rattle.cedar_types.specs.declared.base.names.slots.SlotId.{SlotId}
@@ -25,7 +25,7 @@ both_say false c = refl
 and_bool : (o p : Outcome) → IsBool o → IsBool p → IsBool (of_test (and_test (test_of o) (test_of p)))
 and_bool o p (b, e) (c, f) = (b && c, (λ i. of_test (and_test (test_of (e i)) (test_of (f i)))) ∙ both_say b c)
 
--- a test of what a slot is bound to
+-- a test of the entity that a slot is bound to is a boolean, if the slot is bound
 bound_bool : (b : Option Uid) (f : Value → Outcome) → IsBound b → ((u : Uid) → IsBool (f (VEntity u)))
     → IsBool (on_value (bound_outcome b) f)
 bound_bool None f h g = absurd h

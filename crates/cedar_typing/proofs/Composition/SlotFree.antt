@@ -1,4 +1,4 @@
--- What mentions no slot is typed in the same way whatever the slots are linked to.
+-- An expression that mentions no slot is typed in one way, whatever the slots are linked to.
 use Rattle.std.proofs.Common.{◌≡◌, ℕ, ◌+◌, Bool, false, ◌||◌, true≢false, List, [], Option, None, refl, sym, ◌∙◌, subst}
 use Rattle.cedar_types.specs.declared.base.expressions.operators.Var.{Var}
 use Rattle.cedar_types.specs.declared.base.names.slots.SlotId.{SlotId}
@@ -81,7 +81,7 @@ module _ (s : Setting) (d : DeclaredEnv) (p r p' r' : Option Path) where
   literal_typed (string t) = refl
   literal_typed (entity u) = refl
 
-  -- `&&` or `||`, as it is inferred, of two sides that are the same
+  -- inference of `&&` or `||` by the inference of its two sides
   abbrev sides : Setting → Connective → Written → Source → Source → Caps → ℕ → List Finding → AnswerAndErrors
   sides t f m a b prior k es =
       after (expect t.env bool_types (place_of a) (unless_too_deep (k + 1) es (infer_within t a prior (k + 1) es)))
@@ -173,7 +173,7 @@ module _ (s : Setting) (d : DeclaredEnv) (p r p' r' : Option Path) where
 
 -- ---- the rules
 
--- what the rules say that answer so
+-- the judgment that the rules make with an answer: a derivation, a recovery or a cut
 abbrev Says : Judgment → Answer → List Finding → Type 0
 Says J (success x c) es = (t : Ty) × J.derives t c x
 Says J (failure x) es = J.recovers x es

@@ -58,7 +58,7 @@ module _ (env : TypeEnv) (own : Path) where
 shallower : (k : ℕ) → k + 1 ≤ max_nesting → k ≤ max_nesting
 shallower k h = grind (arith, common_steps)
 
--- a variable that is no literal, against its slot, where both are of the own type
+-- the test of a variable that is no literal against its slot, if both have the own type
 module _ (t : Setting) (own : Path) (v : Var) (x : SlotId) (of_variable : variable_type t.env v ≡ Some (TEntity (own ∷ [])))
     (of_slot : Some (slot_ty t.env.request_env x) ≡ Some (TEntity (own ∷ []))) (m n o : Written)
     (no_literal : literal_of t.env.request_env (var n v) ≡ None) where

@@ -82,7 +82,7 @@ module _ (world : World) (b b' : Slots) where
         λ i. more_entry_outcomes k (eval_alike t (one (λ q. mentions_slot q t) (λ q. field_mentions_slot q fs) h) i)
         (fields_alike fs (other (λ q. mentions_slot q t) (λ q. field_mentions_slot q fs) h) i)
 
--- ---- where both slots are bound, those of any expression are
+-- ---- the slots of any expression are bound if both slots are
 
 module _ (b : Slots) (all : (x : SlotId) → IsBound (b x)) where
   mutual

@@ -31,7 +31,7 @@ environments = record {
   idle = refl;
 }
 
--- ---- the same verdict
+-- ---- verdicts that agree
 
 still_irrelevant : (u v : Verdict) → SameVerdict u v → IsIrrelevant u → IsIrrelevant v
 still_irrelevant u v same_success h = absurd h

@@ -1,5 +1,5 @@
--- Worlds that conform although much is open in them: all premises hold, and the outcomes of the policies are
--- computed.
+-- Worlds that conform although much is open in them: all premises hold, and the outcomes of the
+-- policies are computed.
 use Rattle.std.proofs.Common.{◌≡◌, inl, inr, Bool, true, false, if◌then◌else◌, [], ◌∷◌, Option, Some, refl, sym, ◌∙◌}
 use Rattle.cedar_types.specs.declared.base.types.ValidationMode.{ValidationMode}
 use Rattle.cedar_types.specs.declared.base.types.ValidationMode.TheVariants.{Strict, Permissive}
@@ -41,7 +41,7 @@ fitting = (
   ),
 )
 
--- of two entries of one id the second is never read
+-- the second of two entries of one id is never read
 second_unread : (v : Uid) (x y : Entity) (es : Store) (u : Uid)
     → entity_at ((v, x) ∷ (v, y) ∷ es) u ≡ entity_at ((v, x) ∷ es) u
 second_unread v x y es u = go (uid_eq u v) (entity_at es u)

@@ -1,4 +1,5 @@
--- The check of a condition has one verdict, save for the order of errors: that of the check as a function.
+-- The check of a condition has one verdict, save for the order of errors: that of the check as a
+-- function.
 use Rattle.std.proofs.Common.{◌≡◌, Bool, true, false, List, [], ◌∷◌, length, Some, refl, sym, ◌∙◌, ap, subst, arith}
 use Rattle.std.proofs.lemmas.Grind.{common_steps}
 use Rattle.std.specs.Prelude.{IsPermutation}
@@ -22,7 +23,7 @@ use Rattle.cedar_typing.proofs.Agreement.Induction.{agrees}
 use Rattle.cedar_typing.proofs.Agreement.Parts.{operand_only, cut_only}
 use Rattle.cedar_typing.proofs.Policies.Check.{checked}
 
--- ---- the same verdict
+-- ---- verdicts that agree
 
 same_back : (u v : Verdict) → SameVerdict u v → SameVerdict v u
 same_back u v same_success = same_success

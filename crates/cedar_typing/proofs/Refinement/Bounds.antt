@@ -22,7 +22,7 @@ either : (b : Bool) (a p q : Option Ty) (u : Ty) → (p ≡ Some u → q ≡ Som
 either true a p q u h e = e
 either false a p q u h e = h e
 
--- from bounds of types that differ
+-- a bound is kept in Permissive if it is kept for types that differ
 by_apart : (s t u : Ty) → (apart_lub Strict s t ≡ Some u → apart_lub Permissive s t ≡ Some u) → lub Strict s t ≡ Some u
     → lub Permissive s t ≡ Some u
 by_apart s t u h =
@@ -37,16 +37,16 @@ sets_kept (Some v) b u h e = ap (option_map TSet) (h v refl) ∙ e
 
 -- ---- attributes
 
--- what is found in ys is found in all
+-- each attribute that is found in ys is found in all
 abbrev FoundIn : Attrs → Attrs → Type 0
 FoundIn ys all = (k : Text) (a : Ty × Bool) → find_attr k ys ≡ Some a → find_attr k all ≡ Some a
 
--- the attributes of a bound in Strict are those of the bound in Permissive, and as many as either side has
+-- a bound in Strict has the attributes of the bound in Permissive, and as many as either side has
 abbrev SameBound : Attrs → Attrs → Attrs → Attrs → Type 0
 SameBound xs ys all zs =
     (common_attrs Permissive xs all ≡ zs) × (attr_count zs ≡ attr_count xs) × (attr_count zs ≡ attr_count ys)
 
--- the names after the first are found too, as they are others
+-- the attributes after the first are found too, because their names differ from it
 others_found : (l : Text) (t : Ty) (q : Bool) (ys all : Attrs) → names_ascend (attr l t q ys) ≡ true
     → FoundIn (attr l t q ys) all → FoundIn ys all
 others_found l t q ys all n h k a e = by (text_eq k l) refl

@@ -1,4 +1,4 @@
--- Strict is kept in Permissive: the check of a condition, and of a policy in all of its environments.
+-- Strict is kept in Permissive: the check of a condition, and of a policy in all its environments.
 use Rattle.std.proofs.Common.{◌≡◌, Bool, true, false, List, [], ◌∷◌, ◌++◌, None, refl, sym, ◌∙◌, ap, subst}
 use Rattle.std.specs.Prelude.{IsPermutation}
 use Rattle.std.specs.List.{list_all, AllByRecursion}
@@ -37,7 +37,7 @@ no_errors : (es : List Finding) → is_silent es ≡ true → es ≡ []
 no_errors [] q = refl
 no_errors (e ∷ es) q = cc
 
--- where no errors are left in another order there were none
+-- a list of errors is empty if it is silent in some order
 none_before : (es fs : List Finding) → IsPermutation es fs → is_silent fs ≡ true → es ≡ []
 none_before es fs p q = none es (IsPermutation-sym es [] (subst (IsPermutation es) (no_errors fs q) p))
 
@@ -84,7 +84,7 @@ module _ (b : Basis) (t : PlainTemplate) (formed : has_formed_types b.schema ≡
   passing : (e : Env) → IsOneOf e envs → (v : Verdict) × StrictChecks e v × (passes v ≡ true)
   passing e i = each_has_passing StrictChecks passes o.listed envs o.verdicts o.in_some_order o.checked (sym o.answered) e i
 
-  -- so each passes
+  -- each Strict verdict of the environment passes
   pub all_passing : (e : Env) → IsOneOf e envs → (v : Verdict) → StrictChecks e v → passes v ≡ true
   all_passing e i v h =
       let u = passing e i in
@@ -107,7 +107,7 @@ strict_verdicts_are_kept b t formed functions errors errors' old new o = same_ve
 
 -- ---- all environments
 
--- what holds of each environment holds of each in another order
+-- a property of each environment of a list holds of each in another order
 module _ (P : Env → Type 0) where
   pub in_order_too : (listed es : List Env) → IsPermutation listed es → AreAll P es → AllByRecursion P listed
   in_order_too listed es m f = by_recursion P listed (reordered P es listed (IsPermutation-sym listed es m) f)
@@ -119,7 +119,7 @@ verdicts_moved C D [] (v ∷ vs) f h = absurd h
 verdicts_moved C D (e ∷ es) [] f h = absurd h
 verdicts_moved C D (e ∷ es) (v ∷ vs) f h = (f.0 v h.0, verdicts_moved C D es vs f.1 h.1)
 
--- an outcome by other checks that give the same verdicts
+-- a policy's outcome stands by other checks, if these give the same verdicts
 outcome_moved : (C D : Env → Verdict → Type 0) (es : List Env) (t : PlainTemplate)
     → ((e : Env) → IsOneOf e es → (v : Verdict) → C e v → D e v)
     → (answer : Bool) (errors errors' : List Finding) (old new : List Warning)

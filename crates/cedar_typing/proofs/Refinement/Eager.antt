@@ -1,4 +1,5 @@
--- What one judgment says without an error another says just the same: forms whose operands are all typed first.
+-- Refinement of judgments for forms whose operands are all typed first: an answer without an error
+-- in one is an answer in the other.
 use Rattle.std.proofs.Common.{◌≡◌, Bool, false, List, [], Option, Some, None, refl, ◌∙◌, ap}
 use Rattle.cedar_types.specs.declared.base.location.Loc.{Loc}
 use Rattle.cedar_types.specs.declared.base.expressions.operators.BinaryOp.{BinaryOp}
@@ -57,7 +58,7 @@ module _ (env env' : TypeEnv) (goes_on goes_on' : Bool) (q : Expectation) (l : O
 
 -- ---- a form
 
--- a table that says the same as that of f, of types that are kept to, where that has no error
+-- the table agrees with that of f on kept types, wherever that of f has no error
 abbrev pub SaysTheSame : (Ty → Type 0) → Form → (List (Option Ty) → Decision) → Type 0
 SaysTheSame Kept f table = (ts : List (Option Ty)) → AllKept Kept ts → errors_of (f.decides ts) ≡ [] → table ts ≡ f.decides ts
 
@@ -65,7 +66,7 @@ SaysTheSame Kept f table = (ts : List (Option Ty)) → AllKept Kept ts → error
 abbrev pub with_table : Form → (List (Option Ty) → Decision) → (List (Option Ty) → List Finding) → Form
 with_table f table limit = record f { decides = table; at_limit = limit }
 
--- but for its table the form of an operator is the same in two environments
+-- the forms of an operator in two environments differ only in their table
 pub operator_is : (env env' : TypeEnv) (m : Written) (prior : Caps) (a b : Source) (o : BinaryOp)
     → with_table (binary_form env m prior a b o) (binary_form env' m prior a b o).decides (binary_form env' m prior a b o).at_limit
     ≡ binary_form env' m prior a b o

@@ -1,4 +1,4 @@
--- By a schema whose types are formed, each type that is found is well-formed.
+-- Each type that typing finds is well-formed, if the types of the schema are formed.
 use Rattle.std.proofs.Common.{◌≡◌, inl, inr, Bool, true, false, ◌&&◌, List, [], ◌∷◌, map, Option, Some, None, option_map, fold, if◌then◌else◌, refl, sym, subst}
 use Rattle.std.specs.List.{list_all}
 use Rattle.cedar_types.specs.declared.base.names.slots.SlotId.{SlotId}
@@ -189,7 +189,7 @@ keeps_formed env w = record {
   slots = slot_formed env.request_env;
 }
 
--- ---- what typing starts from
+-- ---- the types of literals and variables
 
 entity_formed : (s : Schema) (u : Uid) → HasKept IsFormed (literal_type s u)
 entity_formed s u = by (declares_entity s u)
@@ -216,7 +216,7 @@ variable_formed env c Var.Action = action_type_formed env.schema env.request_env
 variable_formed env c Var.Resource = resource_formed env.request_env
 variable_formed env c Var.Context = c
 
--- what a function returns
+-- the return type of a function is formed
 pub return_formed : (fs : List ExtensionFunction)
     → ((n : Path) (f : ExtensionFunction) → function_named n fs ≡ Some f → is_well_formed f.return_type ≡ true)
     → (n : Path) → HasKept IsFormed (return_type (function_named n fs))
@@ -230,7 +230,8 @@ context_formed : (s : Schema) → has_formed_types s ≡ true → (e : Env) → 
 context_formed s w (Declared d p r) i = contexts_formed s w d i
 context_formed s w Undeclared i = absurd i
 
--- by a schema whose types are formed and a table without faults, in an environment of the schema
+-- a setting has formed types, with a schema whose types are formed and a table without faults, in
+-- an environment of the schema
 pub formed_by_schema : (s : Setting) → has_formed_types s.env.schema ≡ true → table_fault s.functions ≡ None
     → IsEnvironmentOf s.env.schema s.env.request_env → HasFormedTypes s
 formed_by_schema s w faults i = record {

@@ -65,14 +65,14 @@ module _ (s : Setting) (formed : HasFormedTypes s) where
   bounds : (t u v : Ty) → IsFormed u → lub Strict t u ≡ Some v → lub Permissive t u ≡ Some v
   bounds t u v k e = strict_bound_is_kept t u v k e
 
-  -- the types of a part
+  -- each type that is found of a part is formed
   kept : (e : Source) (prior : Caps) (d : ℕ) → KeepsTypes IsFormed (visited d (rules_within one e prior d))
   kept e prior d = within_kept IsFormed d _ (kept_by IsFormed one keeps returns variables e prior d)
 
   deeper : {J J' : Judgment} (d : ℕ) → Refines J J' → Refines (visited (d + 1) J) (visited (d + 1) J')
   deeper d r = within_refines (d + 1) _ _ r
 
-  -- a call, by its errors in Strict: with none it is the same form in both modes, and else it always has an error
+  -- a call has one form in both modes if it has no errors in Strict; else it always has an error
   by_errors : (m : Written) (n : Path) (ts : Trees Written) (prior : Caps) (d : ℕ)
       → RefinesAll
       (rules_all one (call_form (strict_env s) s.functions m n (arguments ts)).goes_on

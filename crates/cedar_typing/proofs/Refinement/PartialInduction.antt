@@ -1,4 +1,4 @@
--- What Permissive derives, Partial derives just the same, in any environment.
+-- Partial has each derivation of Permissive, in any environment.
 use Rattle.std.proofs.Common.{◌≡◌, ℕ, ◌+◌, Bool, true, false, List, [], Option, Some, None, refl, sym, ◌∙◌, subst}
 use Rattle.cedar_types.specs.declared.base.location.Loc.{Loc}
 use Rattle.cedar_types.specs.declared.base.types.ValidationMode.TheVariants.{Permissive, Partial}
@@ -34,7 +34,7 @@ use Rattle.cedar_typing.proofs.Refinement.PartialBounds.{bound_same}
 use Rattle.cedar_typing.proofs.Refinement.PartialTables.{TableGivesToo, same_gives, wide, part, literal_too, variable_too, set_too, record_too}
 use Rattle.cedar_typing.proofs.Refinement.PartialTables.{has_form_too, get_form_too, chain_form_too, call_same, binary_too, binary_is}
 
--- what is derived is derived just the same
+-- J' has each derivation of J
 record DerivesToo (J J' : Judgment) : Type 0 where
   pub derivations : (t : Ty) (c : Caps) (x : TypedTree) → J.derives t c x → J'.derives t c x
 

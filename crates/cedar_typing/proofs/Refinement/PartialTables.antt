@@ -1,4 +1,4 @@
--- What a table of Permissive gives, that of Partial gives too.
+-- A table of Partial gives all that the table of Permissive gives.
 use Rattle.std.proofs.Common.{◌≡◌, Bool, true, false, true≢false, List, [], ◌∷◌, Option, Some, None, if◌then◌else◌, refl, sym, ◌∙◌, ap}
 use Rattle.std.specs.List.{list_all}
 use Rattle.cedar_types.specs.declared.base.expressions.operators.BinaryOp.{BinaryOp}
@@ -49,7 +49,7 @@ is_given (refuses t es) = false
 pub not_given : (o : Option Ty) (es : List Finding) (t : Ty) (c : Caps) → refuses o es ≡ gives t c → ⊥
 not_given o es t c e = true≢false (sym (ap is_given e))
 
--- what one decision gives, another gives
+-- the decision d' gives the type and capabilities that d gives, if d gives any
 abbrev pub GivesToo : Decision → Decision → Type 0
 GivesToo d d' = (t : Ty) (c : Caps) → d ≡ gives t c → d' ≡ gives t c
 
@@ -59,7 +59,7 @@ same_gives d d' q t c e = q ∙ e
 refused_gives : (o : Option Ty) (es : List Finding) (d' : Decision) → GivesToo (refuses o es) d'
 refused_gives o es d' t c e = absurd (not_given o es t c e)
 
--- what a table gives, another table gives
+-- the table gives the type and capabilities that the table of f gives, if that gives any
 abbrev pub TableGivesToo : Form → (List (Option Ty) → Decision) → Type 0
 TableGivesToo f table = (ts : List (Option Ty)) → GivesToo (f.decides ts) (table ts)
 
@@ -215,7 +215,7 @@ module _ (s : Setting) where
     binary_too BinaryOp.GetTag ts = same_gives _ _ (get_tagged m.place (prior (tag_of a b)) (first_type ts))
     binary_too BinaryOp.HasTag ts = same_gives _ _ (same.has_tagged s.env Partial Permissive r r m.place (tag_of a b) (prior (tag_of a b)) (first_type ts))
 
-    -- but for its table the form is the same
+    -- the forms of an operator in the two modes differ only in their table
     pub binary_is : (o : BinaryOp)
         → with_table (binary_form wide m prior a b o) (binary_form part m prior a b o).decides (binary_form part m prior a b o).at_limit
         ≡ binary_form part m prior a b o

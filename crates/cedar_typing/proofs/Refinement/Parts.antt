@@ -1,4 +1,5 @@
--- What one judgment says without an error another says just the same: parts, `&&`, `||` and `if`.
+-- Refinement of judgments for parts, `&&`, `||` and `if`: an answer without an error in one is an
+-- answer in the other.
 use Rattle.std.proofs.Common.{◌≡◌, Bool, false, ◌&&◌, is_some, List, [], ◌∷◌, ◌++◌, Option, Some, None, refl, sym, ◌∙◌, ap, subst}
 use Rattle.cedar_types.specs.declared.base.errors.type_errors.LubContext.TheVariants.{Conditional}
 use Rattle.cedar_types.specs.declared.base.location.Loc.{Loc}
@@ -34,7 +35,7 @@ not_nil e es h = cc
 
 -- ---- judgments
 
--- what is derived is derived just the same, and so is what fails without an error
+-- J' has each derivation of J, and each of its failures without an error
 pub record Refines (J J' : Judgment) : Type 0 where
   pub derivations : (t : Ty) (c : Caps) (x : TypedTree) → J.derives t c x → J'.derives t c x
   pub silences : (x : TypedTree) (es : List Finding) → J.recovers x es → es ≡ [] → J'.recovers x es
@@ -84,7 +85,7 @@ module _ (env env' : TypeEnv) (m : Written) (l : Option Loc) (A A' : Judgment) (
 
   module _ (Kept : Ty → Type 0) (bounds : (s t u : Ty) → Kept t → lub env.mode s t ≡ Some u → lub env'.mode s t ≡ Some u)
       (E E' : Judgment) (e : Refines E E') (kept : KeepsTypes Kept E) where
-    -- the bound of two types and its errors, where there are none
+    -- both environments give two types one bound, and one list of errors for it
     abbrev SameJoin : Option Ty → Option Ty → Type 0
     SameJoin x y =
         (joined env'.mode x y ≡ joined env.mode x y)

@@ -1,4 +1,4 @@
--- The tables of Strict and of Permissive say the same where that of Strict has no error.
+-- The tables of Strict and of Permissive agree wherever that of Strict has no error.
 use Rattle.std.proofs.Common.{◌≡◌, inl, inr, Bool, true, false, List, [], ◌∷◌, Option, Some, None, if◌then◌else◌, refl, ◌∙◌, ap}
 use Rattle.cedar_types.specs.declared.base.errors.type_errors.LubContext.TheVariants.{Equality, Contains, ContainsAnyAll}
 use Rattle.cedar_types.specs.declared.base.expressions.operators.BinaryOp.{BinaryOp}
@@ -39,7 +39,7 @@ use Rattle.cedar_typing.proofs.KeptTypes.Sets.{found_kept}
 use Rattle.cedar_typing.proofs.Refinement.Eager.{SaysTheSame, with_table, operator_is}
 use Rattle.cedar_typing.proofs.Refinement.Parts.{not_nil}
 
--- without errors the type is given
+-- a table without errors gives the type
 given : (es : List Finding) (t : Ty) → errors_of (gives_unless es t) ≡ [] → gives t no_caps ≡ gives_unless es t
 given [] t q = refl
 given (e ∷ es) t q = absurd (not_nil e es q)
@@ -75,7 +75,7 @@ module _ (s : Setting) where
   equal_decided true es u q = given es u q
   equal_decided false es u q = refl
 
-  -- ---- what asks for a bound
+  -- ---- forms that ask for a bound
 
   module _ (Kept : Ty → Type 0) (bounds : (t u v : Ty) → Kept u → lub Strict t u ≡ Some v → lub Permissive t u ≡ Some v) where
     next_kept : (w : Ty) (t : Ty) (ts : List Ty) (u : Ty) (o : Option Ty) → Kept t → lub Strict w t ≡ o
@@ -172,7 +172,7 @@ module _ (s : Setting) where
         binary_says BinaryOp.GetTag ts k q = get_tagged m.place (prior (tag_of a b)) (first_type ts) q
         binary_says BinaryOp.HasTag ts k q = same.has_tagged s.env Permissive Strict r r m.place (tag_of a b) (prior (tag_of a b)) (first_type ts)
 
-        -- but for its table the form is the same
+        -- the forms of an operator in the two modes differ only in their table
         pub binary_is : (o : BinaryOp)
             → with_table (binary_form strict_env m prior a b o) (binary_form permissive_env m prior a b o).decides
             (binary_form permissive_env m prior a b o).at_limit

@@ -1,4 +1,4 @@
--- What fails has an error: `has`, `.`, extended `has`, `hasTag` and `getTag`.
+-- Each failure has an error: `has`, `.`, extended `has`, `hasTag` and `getTag`.
 use Rattle.std.proofs.Common.{Bool, ◌&&◌, ◌||◌, List, [], ◌∷◌, Option, Some, None, refl}
 use Rattle.cedar_types.specs.declared.base.location.Loc.{Loc}
 use Rattle.cedar_types.specs.Types.Bounds.{is_never, list_lub}

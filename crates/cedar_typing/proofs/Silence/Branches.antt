@@ -1,4 +1,4 @@
--- What fails has an error: `&&`, `||` and `if`.
+-- Each failure has an error: `&&`, `||` and `if`.
 use Rattle.std.proofs.Common.{◌≡◌, Bool, true, false, ◌&&◌, List, ◌++◌, Option, Some, None, is_some, refl}
 use Rattle.cedar_types.specs.declared.base.location.Loc.{Loc}
 use Rattle.cedar_types.specs.declared.base.errors.type_errors.LubContext.{LubContext}
@@ -30,7 +30,7 @@ module _ (env : TypeEnv) (l : Option Loc) (x : LubContext) where
   join_loud (Some t) None h k n = absurd k
   join_loud (Some t) (Some u) h k n = bound_loud t u (lub env.mode t u) n
 
--- of three parts and a bound, one of which failed
+-- three parts and a bound have an error if one of them failed
 loud_of_all : (a b c j : Bool) (es fs gs hs : List Finding) → (a ≡ false → IsLoud es) → (b ≡ false → IsLoud fs) → (c ≡ false → IsLoud gs)
     → (b ≡ true → c ≡ true → j ≡ false → IsLoud hs) → (a && b && c && j) ≡ false → IsLoud (es ++ fs ++ gs ++ hs)
 loud_of_all false b c j es fs gs hs f g h k e = loud_before (es ++ fs ++ gs) hs (loud_before (es ++ fs) gs (loud_before es fs (f refl)))

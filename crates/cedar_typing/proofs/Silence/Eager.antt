@@ -1,4 +1,4 @@
--- What fails has an error: forms whose operands are all typed first.
+-- Each failure has an error: forms whose operands are all typed first.
 use Rattle.std.proofs.Common.{◌≡◌, ℕ, zero, suc, Bool, true, false, List, [], ◌∷◌, ◌++◌, Option, Some, None, refl, subst}
 use Rattle.cedar_types.specs.declared.base.location.Loc.{Loc}
 use Rattle.cedar_types.specs.Types.{Ty}
@@ -16,19 +16,19 @@ use Rattle.cedar_typing.proofs.Silence.Parts.{part_known, operand_loud, operand_
 
 -- ---- tables
 
--- it gives a type, or it refuses with an error
+-- the decision gives a type, or refuses with an error
 abbrev pub IsLoudDecision : Decision → Type 0
 IsLoudDecision (gives t c) = Unit {0}
 IsLoudDecision (refuses t fs) = IsLoud fs
 
--- the types of so many operands, and perhaps of more, were all found, and none is Never
+-- all types were found, they are n or more, and none is Never
 abbrev pub AreKnown : ℕ → List (Option Ty) → Type 0
 AreKnown zero [] = Unit {0}
 AreKnown (suc n) [] = ⊥
 AreKnown zero (t ∷ ts) = IsKnown t × AreKnown zero ts
 AreKnown (suc n) (t ∷ ts) = IsKnown t × AreKnown n ts
 
--- a table refuses them with an error
+-- the table gives a type for n or more known types, or refuses them with an error
 abbrev pub LoudForm : ℕ → Form → Type 0
 LoudForm n f = (ts : List (Option Ty)) → AreKnown n ts → IsLoudDecision (f.decides ts)
 
@@ -45,7 +45,7 @@ module _ (J : Judgment) (loud : Loud J) (env : TypeEnv) where
   expected_known None l b c x es p h = part_known J loud b c x es p h
   expected_known (Some ts) l b c x es p h = operand_known J loud env ts l b c x es p h
 
--- where one failed there is an error, else the types of n at least are known
+-- operands have an error if one of them failed; else their types, n or more, are known
 pub record LoudAll (n : ℕ) (Js : Judgments) : Type 0 where
   pub failures : (b : Bool) (xs : List TypedTree) (es : List Finding) → Js.give b xs es → b ≡ false → IsLoud es
   pub known : (b : Bool) (xs : List TypedTree) (es : List Finding) → Js.give b xs es → b ≡ true → AreKnown n (types_found xs)
@@ -59,7 +59,7 @@ none_known b xs es none_given h = tt
 pub none_loud : LoudAll zero no_operands
 none_loud = record { failures = no_failures; known = none_known }
 
--- without the first of so many, if there are any
+-- the number of operands after the first of n, if there are any
 abbrev pub others_of : ℕ → ℕ
 others_of zero = zero
 others_of (suc n) = n

@@ -1,4 +1,4 @@
--- What fails has an error: all expressions.
+-- Each failure has an error: all expressions.
 use Rattle.std.proofs.Common.{◌≡◌, ℕ, zero, ◌+◌, Bool, true, false, List, [], ◌∷◌, ◌++◌, Option, Some, None, if◌then◌else◌, true≢false, refl}
 use Rattle.cedar_types.specs.declared.base.expressions.operators.Var.{Var}
 use Rattle.cedar_types.specs.Errors.{Finding}
@@ -83,7 +83,7 @@ module _ (s : Setting) (ok : IsSettled s) where
   variable_typed Var.Resource e = cc
   variable_typed Var.Context e = cc
 
-  -- what is left of two parts and of three
+  -- each of two or three parts is clean if all of them are
   module _ (a b : Source) where
     left_of : AreClean s.env.schema (subexpressions b ++ subexpressions a) → AreClean s.env.schema (subexpressions a)
     left_of = clean_right s.env.schema (subexpressions b) (subexpressions a)

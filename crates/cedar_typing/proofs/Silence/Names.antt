@@ -1,4 +1,4 @@
--- What an expression is where nothing in it is unknown: its literals and actions are declared.
+-- Expressions in which nothing is unknown: their literals and actions are declared.
 use Rattle.std.proofs.Common.{◌≡◌, inl, inr, Bool, true, false, not, ◌&&◌, ◌||◌, List, [], ◌∷◌, ◌++◌, map, filter, Option, Some, None}
 use Rattle.std.proofs.Common.{if◌then◌else◌, refl, sym, ◌∙◌, subst}
 use Rattle.std.specs.List.{list_any, flat_map}
@@ -25,7 +25,7 @@ use Rattle.cedar_typing.proofs.Basics.Members.{all_flat, all_pass}
 
 -- ---- an expression itself, and its parts
 
--- an expression is no unknown, and what it names itself is known
+-- the expression is no unknown, and each type and action that it names itself is known
 pub record IsClean (s : Schema) (e : Source) : Type 0 where
   pub known : is_unknown e ≡ false
   pub types : list_any (λ n. is_unknown_type s n.name) (types_named e) ≡ false
@@ -126,7 +126,7 @@ pass_any p (y ∷ ys) x (inl e) k = or_left (p y) (list_any p ys) (subst (λ z. 
 pass_any p (y ∷ ys) x (inr h) k = or_right (p y) (list_any p ys) (pass_any p ys x h k)
 
 module _ (s : Schema) (faults : has_fault s ≡ false) where
-  -- it has the type of an action, and is declared
+  -- the environment's action has the type of an action, and is declared
   abbrev IsGood : DeclaredEnv → Type 0
   IsGood d = (is_action_path d.action.entity_type ≡ true) × (declares_action s.actions d.action ≡ true)
 
@@ -151,7 +151,7 @@ module _ (s : Schema) (faults : has_fault s ≡ false) where
         pass_any (λ (b : DeclaredAction). uid_eq a.name b.name) s.actions a i (uid_same.itself a.name),
       ))
 
-  -- so the variable `action` has a type
+  -- the variable `action` has a type, if b holds
   typed_if : (b : Bool) (u : Uid) → b ≡ true → (if b then Some (TEntity (u.entity_type ∷ [])) else None) ≡ None → ⊥
   typed_if true u h e = cc
   typed_if false u h e = cc

@@ -1,4 +1,4 @@
--- What fails has an error: `in`, and each operator on two operands.
+-- Each failure has an error: `in`, and each operator on two operands.
 use Rattle.std.proofs.Common.{◌≡◌, Bool, true, false, List, [], ◌∷◌, Option, Some, None, option_map, if◌then◌else◌, refl, subst}
 use Rattle.std.specs.List.{list_all}
 use Rattle.cedar_types.specs.declared.base.expressions.operators.BinaryOp.{BinaryOp}
@@ -33,7 +33,7 @@ module _ (env : TypeEnv) (faults : has_fault env.schema ≡ false) (of_schema : 
   abbrev AreDeclared : List Uid → Type 0
   AreDeclared us = list_all (declares_action env.schema.actions) (only_actions us) ≡ true
 
-  -- it is declared, if it is an action
+  -- the entity u is declared, if it is an action
   abbrev IsDeclared : Uid → Type 0
   IsDeclared u = is_action u ≡ true → declares_action env.schema.actions u ≡ true
 

@@ -1,4 +1,4 @@
--- What fails has an error: parts and operands.
+-- Each failure has an error: parts and operands.
 use Rattle.std.proofs.Common.{◌≡◌, Bool, true, false, true≢false, ◌&&◌, List, [], ◌∷◌, ◌++◌, Option, Some, None, refl, sym, ◌∙◌, subst}
 use Rattle.cedar_types.specs.declared.base.location.Loc.{Loc}
 use Rattle.cedar_types.specs.Types.{Ty, TNever}
@@ -16,7 +16,7 @@ use Rattle.cedar_typing.proofs.KeptTypes.Types.{KeptIn}
 
 -- ---- lists of errors
 
--- there is an error
+-- the list has an error
 abbrev pub IsLoud : List Finding → Type 0
 IsLoud es = is_silent es ≡ false
 
@@ -28,13 +28,13 @@ pub loud_after : (es fs : List Finding) → IsLoud fs → IsLoud (es ++ fs)
 loud_after [] fs h = h
 loud_after (e ∷ es) fs h = refl
 
--- of two parts, one of which failed
+-- two parts have an error if one of them failed
 pub loud_of_two : (a b : Bool) (es fs : List Finding) → (a ≡ false → IsLoud es) → (b ≡ false → IsLoud fs)
     → (a && b) ≡ false → IsLoud (es ++ fs)
 loud_of_two false b es fs f g h = loud_before es fs (f refl)
 loud_of_two true b es fs f g h = loud_after es fs (g h)
 
--- the same, where the other one counts first
+-- two parts have an error if one of them failed, also if the right one's success comes first
 pub loud_of_two_back : (a b : Bool) (es fs : List Finding) → (a ≡ false → IsLoud es) → (b ≡ false → IsLoud fs)
     → (b && a) ≡ false → IsLoud (es ++ fs)
 loud_of_two_back a false es fs f g h = loud_after es fs (g refl)
@@ -60,7 +60,7 @@ kept_not_never strictly t h = refl
 pub knows_of : (strictly : Bool) (J : Judgment) → KeepsTypes (KeptIn strictly) J → Knows J
 knows_of strictly J s = record { derivations = λ t c x h. kept_not_never strictly t (s.derivations t c x h); marks = s.marks }
 
--- what fails has an error
+-- each failure has an error, and no derived type is Never
 pub record Loud (J : Judgment) : Type 0 where
   pub failures : (x : TypedTree) (es : List Finding) → J.recovers x es → IsLoud es
   pub single : Knows J

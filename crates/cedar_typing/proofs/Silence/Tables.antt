@@ -1,4 +1,4 @@
--- What fails has an error: operators on one operand, numbers, sets, records and calls.
+-- Each failure has an error: operators on one operand, numbers, sets, records and calls.
 use Rattle.std.proofs.Common.{◌≡◌, zero, Bool, true, false, ◌&&◌, List, [], ◌∷◌, Option, Some, None, if◌then◌else◌, refl}
 use Rattle.cedar_types.specs.declared.base.expressions.operators.BinaryOp.{BinaryOp}
 use Rattle.cedar_types.specs.declared.base.expressions.operators.UnaryOp.{UnaryOp}
@@ -28,7 +28,7 @@ pub loud_if : (b : Bool) (d d' : Decision) → IsLoudDecision d → IsLoudDecisi
 loud_if true d d' h k = h
 loud_if false d d' h k = k
 
--- the type stays beside errors, and without any there is no failure
+-- a table that gives its type unless there are errors is never refused without an error
 pub loud_unless : (es : List Finding) (t : Ty) → IsLoudDecision (gives_unless es t)
 loud_unless [] t = tt
 loud_unless (e ∷ es) t = refl
@@ -60,7 +60,7 @@ is_loud m n (Some t ∷ ts) h = tt
 pub arithmetic_loud : (m : Written) (o : BinaryOp) → LoudForm 2 (arithmetic_form m o)
 arithmetic_loud m o ts h = tt
 
--- two types, the first of which is not Never
+-- two types, of which the first is not Never, give a type or an error
 apart_loud : (b b' same : Bool) (d d' e : Decision) (es : List Finding) (t : Ty) → b ≡ false → IsLoudDecision d'
     → IsLoudDecision e → IsLoud es
     → IsLoudDecision (if b && b' then refuses (Some t) [] else if b then d else if b' then d' else if same then e else refuses (Some t) es)
@@ -95,7 +95,7 @@ none_missing : (t : Ty) (found : Option (List Ty)) → with_type (Some t) found 
 none_missing t None e = refl
 none_missing t (Some ts) e = cc
 
--- of types that are all known none is missing
+-- no type is missing if all are known
 all_found : (ts : List (Option Ty)) → AreKnown zero ts → all_types ts ≡ None → ⊥
 all_found [] h e = cc
 all_found (None ∷ ts) h e = h.0

@@ -94,7 +94,7 @@ module _ (env : TypeEnv) (world : World) (conforms : ConformingStore env.schema 
       required_has env.schema x world.store conforms s t v i h (subst P f e)
   required_there s t r (Fails f) h e g i = tt
 
-  -- where `has` is True, the attribute is there
+  -- the attribute is there if `has` is True
   sure_there : (s t : Ty) (r known : Bool) (o : Outcome) → (known ≡ true → HasAttribute world.store x o)
       → HasFound (Some s) o → attribute_type env.schema s x ≡ Some (t, r) → (known || (r && is_record s)) ≡ true
       → HasAttribute world.store x o
@@ -137,7 +137,7 @@ module _ (env : TypeEnv) (world : World) (conforms : ConformingStore env.schema 
   known_there : known ≡ true → HasAttribute world.store x base
   known_there k = subst (HasAttribute world.store x) (eval_form world e) (hold (attribute_of e x) k)
 
-  -- what `has` produces holds where the attribute is there
+  -- the capability that `has` produces holds if the attribute is there
   there_holds : HasAttribute world.store x base → AllHold world (single (attribute_of e x))
   there_holds h = hold_just world (attribute_of e x) (subst (HasAttribute world.store x) (sym (eval_form world e)) h)
 

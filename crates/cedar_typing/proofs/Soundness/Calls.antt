@@ -1,4 +1,5 @@
--- Calls do not go wrong: a value that a function gives is of its return type, and a call without a value fails in an allowed way.
+-- Calls do not go wrong: a value that a function gives is of its return type, and a call without a
+-- value fails in an allowed way.
 use Rattle.std.proofs.Common.{◌≡◌, Bool, List, [], ◌∷◌, Option, Some, None, refl, sym, subst}
 use Rattle.cedar_types.specs.Names.{Path}
 use Rattle.cedar_types.specs.Types.{Ty}
@@ -22,7 +23,7 @@ use Rattle.cedar_typing.proofs.Soundness.FixedTypes.{silent_gift}
 use Rattle.cedar_typing.proofs.Soundness.Parts.{Sounds}
 use Rattle.cedar_typing.proofs.Soundness.Sets.{outcomes, together, evaluated_together, AreSafe, together_safe}
 
--- ---- what a call comes to
+-- ---- the outcome of a call
 
 -- the value of a call, if there is one, has the type that each value of the function has
 value_has : (t : Ty) (o : Option Value) → ((v : Value) → o ≡ Some v → HasType t v) → HasFound (Some t) (called o)

@@ -42,7 +42,7 @@ module _ (strictly : Bool) (env : TypeEnv) (world : World) (conforms : Conformin
   -- ---- the access between two steps
 
   module _ (e : Source) (s : Ty) (h : HasFound (Some s) (eval world e)) (n : KeptIn strictly s) (x : Text) (p : Progress) where
-    -- what the access results in
+    -- the outcome of the access
     abbrev got : Outcome → Outcome
     got o = on_value o (get world.store x)
 

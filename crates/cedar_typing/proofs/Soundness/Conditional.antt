@@ -112,7 +112,7 @@ right_has strictly m strict (Some t) (Some u) n k o h = go (lub m t u) refl o h
     go (Some v) e (Gives x) h = right_kept strictly m strict t u v n k e x h
     go (Some v) e (Fails f) h = tt
 
--- a bound that is True or of no value is the right side too
+-- the right side's type is True or without values if the bound is
 module _ (u : Ty) where
   abbrev FromRight : Option Ty → Type 0
   FromRight o = IsSure o → IsSureType u
@@ -256,7 +256,7 @@ module _ (strictly : Bool) (world : World) (env : TypeEnv) (strict : is_strict e
             (z.caps_hold_at_true (right_joined env.mode (Some t') (Some u) i)));
       }
 
-  -- a test of which more is found than that it is accepted
+  -- the promise on a test, by the sort that was found of it
   settled : (succeeded : Bool) (k : Caps) (a : TypedTree) (fs : List Finding) → Operand env bool_types l A succeeded k a fs
       → (sort : Option BoolSort) → sort_of (annotation a) ≡ sort → SoundTest world (test_of o) succeeded sort k
   settled succeeded k a fs i sort e =

@@ -1,4 +1,5 @@
--- A form whose operands are all typed first does not go wrong where its table keeps its promise: one proof for all of them.
+-- A form whose operands are all typed first does not go wrong if its table keeps its promise: one
+-- proof for all such forms.
 use Rattle.std.proofs.Common.{◌≡◌, Bool, true, false, List, [], ◌∷◌, Option, Some, None, refl, sym, ap, subst}
 use Rattle.cedar_types.specs.declared.base.location.Loc.{Loc}
 use Rattle.cedar_types.specs.Types.{Ty}
@@ -21,9 +22,9 @@ use Rattle.cedar_typing.proofs.KeptTypes.Types.{KeptIn}
 use Rattle.cedar_typing.proofs.Soundness.Parts.{IsSure, Sound, Sounds, IsAccepted, refused_sound, part_sound, operand_sound}
 use Rattle.cedar_typing.proofs.Soundness.Parts.{operand_accepted}
 
--- ---- what is known of operands
+-- ---- facts about operands
 
--- the value of each, if there is one, has the type that was found, if one was
+-- each outcome's value, if there is one, has the type that was found, if one was
 abbrev pub AllHave : List (Option Ty) → List Outcome → Type 0
 AllHave [] [] = Unit {0}
 AllHave [] (o ∷ os) = ⊥
@@ -34,7 +35,7 @@ abbrev pub AllSafe : List Outcome → Type 0
 AllSafe [] = Unit {0}
 AllSafe (o ∷ os) = IsSafe o × AllSafe os
 
--- a type was found of each
+-- a type was found
 abbrev pub IsFound : Option Ty → Type 0
 IsFound None = ⊥
 IsFound (Some t) = Unit {0}
@@ -43,7 +44,7 @@ abbrev pub AllFound : List (Option Ty) → Type 0
 AllFound [] = Unit {0}
 AllFound (t ∷ ts) = IsFound t × AllFound ts
 
--- each type that was found is one that is expected
+-- the type, if one was found, is an expected one
 abbrev pub Meets : Expectation → Option Ty → Type 0
 Meets q None = Unit {0}
 Meets q (Some t) = meets q t ≡ true
@@ -52,14 +53,14 @@ abbrev pub AllMeet : List Expectation → List (Option Ty) → Type 0
 AllMeet qs [] = Unit {0}
 AllMeet qs (t ∷ ts) = Meets (first_expectation qs) t × AllMeet (later_expectations qs) ts
 
--- ---- what a form has to show, where its operands result in os and it in o
+-- ---- the promise on a form, if its operands result in os and it in o
 
--- what is known of the operands' types
+-- the operands' types: each value has its type, and each type is expected
 pub record AreTypes (f : Form) (os : List Outcome) (ts : List (Option Ty)) : Type 0 where
   pub have : AllHave ts os
   pub meet : AllMeet f.expects ts
 
--- what the table gives where a type was found of each
+-- the promise on the type that the table gives, if a type was found of each operand
 pub record SoundGift (world : World) (os : List Outcome) (o : Outcome) (t : Ty) (c : Caps) : Type 0 where
   pub safe : AllSafe os → IsSafe o
   pub caps_hold_if_true : IsTrueOutcome o → AllHold world c
@@ -72,7 +73,7 @@ GiftIsSound world os o (refuses t fs) = Unit {0}
 pub record SoundForm (world : World) (f : Form) (os : List Outcome) (o : Outcome) : Type 0 where
   pub typed : (ts : List (Option Ty)) → AreTypes f os ts → HasFound (decided_type (f.decides ts)) o
   pub succeeds : (ts : List (Option Ty)) → AreTypes f os ts → AllFound ts → GiftIsSound world os o (f.decides ts)
-  -- the type that stays where an operand failed
+  -- the promise on the type that stays if an operand failed
   pub failed : (t : Ty) → HasFound (Some t) o → HasFound (Some (f.type_if_failed t)) o
 
 -- a form of two operands, by the types that were found of them
@@ -97,7 +98,7 @@ of_two world f o p whole none found gift failed = record { typed = typed; succee
     succeeds (Some s ∷ None ∷ ts) q i = absurd i.1.0
     succeeds (Some s ∷ Some t ∷ ts) q i = gift s t ts q
 
--- the same, where typing keeps to the types of the operands
+-- the promise on a form, if typing keeps to the types of the operands
 pub record SoundKeptForm (strictly : Bool) (world : World) (f : Form) (os : List Outcome) (o : Outcome) : Type 0 where
   pub typed : (ts : List (Option Ty)) → AreTypes f os ts → AllKept (KeptIn strictly) ts → HasFound (decided_type (f.decides ts)) o
   pub succeeds : (ts : List (Option Ty)) → AreTypes f os ts → AllKept (KeptIn strictly) ts → AllFound ts
@@ -212,7 +213,7 @@ module _ (strictly : Bool) (world : World) (f : Form)
         caps_hold_at_true = g.caps_hold_at_true;
       }
 
-  -- what stays where the table gives a type and an operand failed
+  -- the promise on a whole whose table gives a type, although an operand failed
   failed_stays : (xs : List TypedTree) (es : List Finding) (t : Ty) (c : Caps) → Js.give false xs es
       → f.decides (types_found xs) ≡ gives t c
       → Sound world o false (annotation (f.node (typed (f.type_if_failed t) f.at) xs)) no_caps
@@ -224,7 +225,7 @@ module _ (strictly : Bool) (world : World) (f : Form)
       (refused_sound world o (Some (f.type_if_failed t))
       (form.failed t (subst (λ y. HasFound (decided_type y) o) e (form.typed (types_found xs) a g.single))))
 
-  -- what stays where the table refuses
+  -- the promise on a whole whose table refuses
   stays : (b : Bool) (xs : List TypedTree) (es : List Finding) (z : Decision) (k : Mark) → Js.give b xs es
       → f.decides (types_found xs) ≡ z → k.ty ≡ decided_type z
       → Sound world o false (annotation (f.node k xs)) no_caps

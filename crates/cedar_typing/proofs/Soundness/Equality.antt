@@ -93,7 +93,7 @@ literals_same (string a) y = refl
 literals_same (entity a) (entity b) = refl
 literals_same (entity a) y = refl
 
--- what an operand that is a literal comes to
+-- the outcome of an operand that is a literal
 abbrev pub IsLiteral : Option Lit → Outcome → Type 0
 IsLiteral None o = Unit {0}
 IsLiteral (Some x) o = o ≡ Gives (literal_value x)
@@ -156,14 +156,14 @@ on_both_has operator t f (Gives v) (Gives w) = f v w
 on_both_has operator t f (Gives v) (Fails z) = tt
 on_both_has operator t f (Fails z) o' = tt
 
--- it is safe where the operands are, and the operator is for values of their types
+-- the whole is safe if the operands are, and the operator is safe for values of their types
 on_both_safe : (operator : Value → Value → Outcome) (s t : Ty) → ((v w : Value) → HasType s v → HasType t w → IsSafe (operator v w)) → (o o' : Outcome)
     → HasFound (Some s) o → HasFound (Some t) o' → IsSafe o → IsSafe o' → IsSafe (on_value o (λ v. on_value o' (operator v)))
 on_both_safe operator s t f (Gives v) (Gives w) h k p q = f v w h k
 on_both_safe operator s t f (Gives v) (Fails z) h k p q = q
 on_both_safe operator s t f (Fails z) o' h k p q = p
 
--- what a table gives keeps its promise where it produces no capabilities
+-- a table without capabilities keeps its promise if the whole is safe for safe operands
 module _ (world : World) (o o' whole : Outcome) (safe : IsSafe o → IsSafe o' → IsSafe whole) where
   type_gift : (u : Ty) → SoundGift world (o ∷ o' ∷ []) whole u no_caps
   type_gift u = record { safe = λ h. safe h.0 h.1.0; caps_hold_if_true = λ n. hold_none world; caps_hold_at_true = λ n. hold_none world }
@@ -227,7 +227,7 @@ contains_safe : (v w : Value) → HasType TAnySet v → IsSafe (contains v w)
 contains_safe (VSet vs) w h = tt
 contains_safe v w h = absurd h
 
--- an operator on two sets: it gives a boolean or fails, and gives one of sets
+-- an operator on two sets: it gives a boolean or fails, and is safe for two sets
 abbrev IsOfSets : (Value → Value → Outcome) → Type 0
 IsOfSets operator =
     (v w : Value) → HasFound (Some (TBool AnyBool)) (operator v w) × (HasType TAnySet v → HasType TAnySet w → IsSafe (operator v w))
@@ -244,7 +244,7 @@ contains_any_of_sets v w = (tt, λ h k. absurd h)
 
 -- ---- sets and their members: the forms
 
--- an operator that gives a boolean or fails, and gives one where the left operand is a set and the right one as expected
+-- an operator that gives a boolean or fails, and is safe for a set and an expected right operand
 record MembershipOperator (right : Expectation) (operator : Value → Value → Outcome) : Type 0 where
   has : (v w : Value) → HasFound (Some (TBool AnyBool)) (operator v w)
   safe : (t : Ty) → meets right t ≡ true → (v w : Value) → HasType TAnySet v → HasType t w → IsSafe (operator v w)

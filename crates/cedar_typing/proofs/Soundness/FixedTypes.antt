@@ -1,4 +1,4 @@
--- Forms of one type, whatever the types of their operands, do not go wrong where an operator gives
+-- Forms of one type, whatever the types of their operands, do not go wrong if the operator gives
 -- values of that type alone and fails for no value of the expected types.
 use Rattle.std.proofs.Common.{◌≡◌, true, List, [], ◌∷◌, Option, Some, None}
 use Rattle.cedar_types.specs.Types.{Ty}

@@ -1,4 +1,4 @@
--- What has a type does not go wrong: the induction over expressions.
+-- Type soundness: the induction over expressions.
 use Rattle.std.proofs.Common.{◌≡◌, ℕ, ◌+◌, Bool, true, false, true≢false, ◌||◌, List, [], ◌∷◌, None, refl, subst, sym}
 use Rattle.std.specs.Prelude.{◌+ℤ◌, ◌-ℤ◌, ◌*ℤ◌, int_lt, int_le}
 use Rattle.cedar_types.specs.declared.base.expressions.operators.BinaryOp.{BinaryOp}
@@ -79,7 +79,8 @@ module _ (world : World) (o : Outcome) where
     marks = λ t c x h. s.marks t c x h.1;
   }
 
--- what a type declares can be joined: in Strict there is no choice, in Permissive all of it is formed
+-- several entity types can be joined: in Strict there is no choice of them, in Permissive all their
+-- types are formed
 choice_joins : (strictly : Bool) (s : Schema) → has_fault s ≡ false → (strictly || has_formed_types s) ≡ true
     → (p q : Path) (ps : List Path) → KeptIn strictly (TEntity (p ∷ q ∷ ps)) → AttributesFormed s
 choice_joins true s f w p q ps n = absurd (true≢false (sym n.0))
@@ -119,7 +120,7 @@ module _ (strictly : Bool) (s : Setting) (world : World) (strict : is_strict s.e
   joins : (t : Ty) → KeptIn strictly t → Joins s.env.schema t
   joins = kept_joins strictly s.env.schema faults formed
 
-  -- what an operator on two operands promises
+  -- the promise on an operator on two operands
   abbrev OperatorIsSound : Written → Caps → Source → Source → BinaryOp → Type 0
   OperatorIsSound m prior x y o =
       SoundKeptForm strictly world (binary_form s.env m prior x y o) (eval world x ∷ eval world y ∷ [])
@@ -254,7 +255,7 @@ module _ (strictly : Bool) (s : Setting) (world : World) (strict : is_strict s.e
       → Sounds world (eval world e) (rules s e prior d)
   sounds e b prior d h = within_sounds world _ d _ (sounds_within e b prior d h)
 
--- the same of a reliable setting and one of its worlds
+-- type soundness in a reliable setting and one of its worlds
 module _ (s : Setting) (world : World) (faults : has_fault s.env.schema ≡ false)
     (formed : IsFormedFor s.env.mode s.env.schema) (table_faults : table_fault s.functions ≡ None) (r : IsReliable s)
     (i : IsWorldOf s world) where

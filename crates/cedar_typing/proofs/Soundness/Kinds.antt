@@ -91,7 +91,8 @@ alone true h = refl
 alone false h = h
 
 module _ (n x : Path) where
-  -- an entity of the type x, which is one of ps: of the type n, if that is the only one
+  -- the type of a test `is n` on an entity of a type x in ps: True if ps has one type alone, else
+  -- Bool
   among_it : (ps : List Path) → is_among ps x ≡ true → is_among ps n ≡ true
       → HasType (if is_some (sole ps) then TBool True else TBool AnyBool) (VBool (path_eq x n))
   among_it [] h k = absurd (true≢false (sym h))
@@ -101,7 +102,7 @@ module _ (n x : Path) where
       subst (λ z. path_eq x z ≡ true) (x_is ∙ sym n_is) (path_same.itself x)
   among_it (p ∷ q ∷ ps) h k = tt
 
-  -- not of the type n, if that is none of them
+  -- an entity of a type x in ps is not of the type n, if n is not in ps
   among_others : (ps : List Path) (b : Bool) → path_eq x n ≡ b → is_among ps x ≡ true → is_among ps n ≡ false → path_eq x n ≡ false
   among_others ps true e h k = absurd (true≢false (sym (subst (λ z. is_among ps z ≡ true) (path_same.to x n e) h) ∙ k))
   among_others ps false e h k = e

@@ -35,7 +35,7 @@ use Rattle.cedar_typing.proofs.Soundness.FixedTypes.{silent_gift}
 use Rattle.cedar_typing.proofs.Values.Ancestors.{in_bool, in_safe, in_typed}
 use Rattle.cedar_typing.proofs.Values.Membership.{in_actions}
 
--- ---- entities that stand as they are: what operands come to
+-- ---- operands that are entities as they stand: their outcomes
 
 abbrev IsEntity : Option Uid → Outcome → Type 0
 IsEntity None o = Unit {0}
@@ -49,7 +49,7 @@ abbrev AreEntities : Option (List Uid) → Outcomes → Type 0
 AreEntities None os = Unit {0}
 AreEntities (Some us) os = os ≡ GiveAll (entity_values us)
 
--- to be in it is to be in one of these
+-- an entity is in the outcome exactly if it is in one of the entities
 abbrev AreAncestors : Store → Option (List Uid) → Outcome → Type 0
 AreAncestors store None o = Unit {0}
 AreAncestors store (Some vs) o = (u : Uid) → on_value o (entity_in store u) ≡ Gives (VBool (list_any (is_in store u) vs))
@@ -139,7 +139,7 @@ module _ (env : TypeEnv) (world : World) (o o' : Outcome) where
   abbrev found_in : Outcome
   found_in = both_in world.store o o'
 
-  -- what the table gives has the value, if there is one
+  -- the value of `in`, if there is one, has the type that the table gives
   module _ (faults : has_fault env.schema ≡ false) (conforms : ConformingStore env.schema world.store) where
     entity_has : (s t : Option Ty) (z z' : Outcome) → HasFound s z → HasFound t z'
         → HasFound (decided_type (entity_decides env s t)) (both_in world.store z z')
@@ -164,7 +164,7 @@ module _ (env : TypeEnv) (world : World) (o o' : Outcome) where
         (λ a. action_has u vs a e f) (entity_has s t o o' h k)
     decides_has u vs s t e f h k = entity_has s t o o' h k
 
-  -- and there is one where the operands have values
+  -- the table keeps its promise if `in` is safe for safe operands
   module _ (safe : IsSafe o → IsSafe o' → IsSafe found_in) where
     abbrev Gift : Decision → Type 0
     Gift = GiftIsSound world (o ∷ o' ∷ []) found_in

@@ -1,4 +1,4 @@
--- What typing promises of evaluation, of parts and of operands.
+-- Promises of typing on evaluation: parts and operands.
 use Rattle.std.proofs.Common.{◌≡◌, Bool, true, false, List, Option, Some, None, sym, subst}
 use Rattle.std.specs.Prelude.{IsTrue}
 use Rattle.cedar_types.specs.declared.base.location.Loc.{Loc}
@@ -16,7 +16,7 @@ use Rattle.cedar_typing.specs.TypedExpr.{TypedTree, annotation}
 use Rattle.cedar_typing.proofs.Agreement.Parts.{Marks}
 use Rattle.cedar_typing.proofs.Views.Marks.{annotation-without_type}
 
--- True, or of no value
+-- the type is True, or has no value
 abbrev pub IsSureType : Ty → Type 0
 IsSureType TNever = Unit {0}
 IsSureType (TBool True) = Unit {0}
@@ -35,25 +35,25 @@ abbrev pub IsSure : Option Ty → Type 0
 IsSure None = ⊥
 IsSure (Some t) = IsSureType t
 
--- what is promised of an outcome: by whether typing succeeded, the type that was found, and what is given on
+-- the promise on an outcome, by the success of typing, the type found and the capabilities
 pub record Sound (world : World) (o : Outcome) (succeeded : Bool) (found : Option Ty) (c : Caps) : Type 0 where
   pub typed : HasFound found o
   pub safe : IsTrue succeeded → IsSafe o
   pub caps_hold_if_true : IsTrueOutcome o → AllHold world c
   pub caps_hold_at_true : IsSure found → AllHold world c
 
--- of all derivations, and of all recoveries
+-- the promise on all derivations and on all recoveries
 pub record Sounds (world : World) (o : Outcome) (J : Judgment) : Type 0 where
   pub derivations : (t : Ty) (c : Caps) (x : TypedTree) → J.derives t c x → Sound world o true (Some t) c
   pub recoveries : (x : TypedTree) (es : List Finding) → J.recovers x es → Sound world o false (annotation x) no_caps
   pub marks : Marks J.derives
 
 module _ (world : World) where
-  -- nothing is promised of an expression without a type that failed
+  -- typing promises nothing of a failed expression without a type
   pub nothing_sound : (o : Outcome) → Sound world o false None no_caps
   nothing_sound o = record { typed = tt; safe = λ h. cc; caps_hold_if_true = λ h q n. cc; caps_hold_at_true = λ h. absurd h }
 
-  -- what a failure still has to meet
+  -- the promise on a failure: its value, if there is one, has the type that was found
   pub refused_sound : (o : Outcome) (t : Option Ty) → HasFound t o → Sound world o false t no_caps
   refused_sound o t h = record { typed = h; safe = λ n. cc; caps_hold_if_true = λ n q m. cc; caps_hold_at_true = λ n q m. cc }
 

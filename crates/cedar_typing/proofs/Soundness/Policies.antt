@@ -1,5 +1,5 @@
--- A policy that passes does not go wrong, and one that is warned to be impossible is never true: from what the check of a
--- policy comes to.
+-- A policy that passes does not go wrong, and one that is warned to be impossible is never true:
+-- both follow from the outcome of the policy's check.
 use Rattle.std.proofs.Common.{◌≡◌, ◌⊎◌, inl, inr, Bool, true, false, cond, List, [], ◌∷◌, None, refl, subst}
 use Rattle.std.specs.Prelude.{IsPermutation}
 use Rattle.cedar_types.specs.Errors.{Finding, Warning}
@@ -38,7 +38,7 @@ use Rattle.cedar_typing.proofs.Soundness.Parts.{Sounds}
 use Rattle.cedar_typing.proofs.Soundness.PolicyCheck.{boolean}
 use Rattle.cedar_typing.proofs.Policies.Verdicts.{verdict_at_most}
 
--- ---- what is derived is a boolean or fails in an allowed way
+-- ---- a derived condition is a boolean or fails in an allowed way
 
 module _ (s : Setting) (e : Source) (world : World) (sound : Sounds world (eval world e) (rules s e no_caps 1)) where
   typed_outcome : (t : Ty) (c : Caps) (x : TypedTree) → Derives s e no_caps 1 t c x → accepts bool_types t ≡ true
@@ -58,7 +58,7 @@ nothing_new : (t : PlainTemplate) (b : Bool) → IsOneOf (impossible t) (cond b 
 nothing_new t true h = refl
 nothing_new t false h = absurd h
 
--- where it is new it is due
+-- the warning is new only if all verdicts are irrelevant
 due : (t : PlainTemplate) (vs : List Verdict) (old new : List Warning) → Adds old (warnings_of t vs) new
     → (IsOneOf (impossible t) old → ⊥) → IsOneOf (impossible t) new → all_irrelevant vs ≡ true
 due t vs old new a absent there = from (in_either (impossible t) old (warnings_of t vs) ((a (impossible t)).0 there))
@@ -67,7 +67,8 @@ due t vs old new a absent there = from (in_either (impossible t) old (warnings_o
     from (inl h) = absurd (absent h)
     from (inr h) = nothing_new t (all_irrelevant vs) h
 
--- what is warned where there was no warning is that: of use to a caller, who sees that there is some warning
+-- the policy is warned to be impossible if there was no warning and there is one now: a caller sees
+-- only that there is some warning
 pub warned_impossible : {Checks : Env → Verdict → Type 0} {envs : List Env} {passes : Bool}
     {errors errors' : List Finding} (t : PlainTemplate) (old new : List Warning)
     → PolicyOutcome Checks envs t passes errors errors' old new → old ≡ [] → (w : Warning) → IsOneOf w new → IsOneOf (impossible t) new
@@ -100,7 +101,8 @@ module _ (b : Basis) (t : PlainTemplate) (schema : has_fault b.schema ≡ false)
   faultless : IsFaultless s
   faultless = record { mode = mode; schema = schema; formed = formed; functions = functions; closed = closed }
 
-  -- what passes in the own environment is kept in any world of the request
+  -- a condition that is derived in each environment is a boolean or fails in an allowed way, in any
+  -- world of the request
   safe_if_derived : (world : World) → IsWellFormed t world.slots → IsConforming b world
       → ((env : Env) → IsOneOf env (checked_envs b.schema b.mode t) → IsDerivedIn s t env)
       → IsBooleanOrAllowed (eval world (condition_of t))

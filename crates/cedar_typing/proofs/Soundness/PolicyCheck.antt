@@ -1,4 +1,4 @@
--- What a check promises of evaluation, from type soundness.
+-- The promise of a check on evaluation, from type soundness.
 use Rattle.std.proofs.Common.{◌≡◌, true, false, Option, Some, None, refl, subst}
 use Rattle.cedar_types.specs.declared.base.types.BoolType.TheVariants.{False}
 use Rattle.cedar_types.specs.Types.{Ty, TBool}

@@ -76,13 +76,13 @@ keys_among_more k ks (more_entries l v es) h = (or_right (text_eq l k) (list_any
 key_named : (k : Text) (ks : List Text) → IsTrue (list_any (text_eq k) (k ∷ ks))
 key_named k ks = or_left (text_eq k k) (list_any (text_eq k) ks) (text_same.itself k)
 
--- ---- what the fields come to
+-- ---- the outcomes of the fields
 
 abbrev pub field_outcomes : World → Fields Written → List Outcome
 field_outcomes world no_fields = []
 field_outcomes world (field k e fs) = eval world e ∷ field_outcomes world fs
 
--- together: the entries with these keys, or the first failure
+-- the fields together: the entries with these keys, or the first failure
 abbrev entries_together : List Text → List Outcome → EntryOutcomes
 entries_together (k ∷ ks) (o ∷ os) = more_entry_outcomes k o (entries_together ks os)
 entries_together ks os = GiveEntries no_entries
@@ -120,7 +120,7 @@ record_has : (ks : List Text) (ts : List Ty) (os : EntryOutcomes) → AreEntries
 record_has ks ts (GiveEntries es) h = h
 record_has ks ts (FailEntry f) h = tt
 
--- only an allowed failure
+-- the fields together fail in an allowed way, if they fail
 abbrev AreSafe : EntryOutcomes → Type 0
 AreSafe (GiveEntries es) = Unit {0}
 AreSafe (FailEntry f) = IsAllowed f

@@ -29,7 +29,7 @@ use Rattle.cedar_typing.proofs.Soundness.Parts.{Sounds}
 
 -- ---- the types that were found
 
--- the value of each, if there is one, has the type at its place
+-- each outcome's value, if there is one, has the type at its place
 abbrev pub AllTyped : List Ty → List Outcome → Type 0
 AllTyped [] [] = Unit {0}
 AllTyped [] (o ∷ os) = ⊥
@@ -51,7 +51,7 @@ found_typed (t ∷ ts) us (o ∷ os) h e = next_typed t (all_types ts) us o os h
 
 -- ---- bounds of several types
 
--- all have one type
+-- all values have the type u
 abbrev AllOf : Ty → List Outcome → Type 0
 AllOf u [] = Unit {0}
 AllOf u (o ∷ os) = HasFound (Some u) o × AllOf u os
@@ -76,13 +76,13 @@ all_have : (strictly : Bool) (m : ValidationMode) → is_strict m ≡ strictly �
     → list_lub m ts ≡ Some u → AreKept (KeptIn strictly) ts → (os : List Outcome) → AllTyped ts os → AllOf u os
 all_have strictly m strict u ts e n os h = each_has u ts (λ s i v. bound_has strictly m strict v ts u s e (each_kept strictly ts n) i) os h
 
--- ---- what the elements come to
+-- ---- the outcomes of the elements
 
 abbrev pub outcomes : World → Trees Written → List Outcome
 outcomes world no_trees = []
 outcomes world (tree t ts) = eval world t ∷ outcomes world ts
 
--- together: all their values, or the first failure
+-- the outcomes together: all their values, or the first failure
 abbrev pub together : List Outcome → Outcomes
 together [] = GiveAll no_values
 together (o ∷ os) = more_outcomes o (together os)
@@ -91,7 +91,7 @@ pub evaluated_together : (world : World) (ts : Trees Written) → together (outc
 evaluated_together world no_trees = refl
 evaluated_together world (tree t ts) = ap (more_outcomes (eval world t)) (evaluated_together world ts)
 
--- only an allowed failure
+-- the outcomes together fail in an allowed way, if they fail
 abbrev pub AreSafe : Outcomes → Type 0
 AreSafe (GiveAll vs) = Unit {0}
 AreSafe (FailAt f) = IsAllowed f
@@ -138,7 +138,7 @@ module _ (strictly : Bool) (world : World) (env : TypeEnv) (strict : is_strict e
   abbrev whole : Outcome
   whole = set_from (together os)
 
-  -- what the table says of a set without elements
+  -- the table's decision on a set without elements
   abbrev without_elements : Bool → Decision
   without_elements b = if b then refuses None (finding env m.place empty_set_forbidden ∷ []) else set_of_types env m.place (Some [])
 

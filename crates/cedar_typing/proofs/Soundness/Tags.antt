@@ -60,7 +60,7 @@ module _ (store : Store) where
   test_safe (VEntity u) w h k = absurd k
   test_safe v w h k = absurd h
 
-  -- a tag that is there is got
+  -- reading a tag that is there is safe
   value_safe : (o : Option Value) → is_some o ≡ true → IsSafe (tag_value o)
   value_safe None h = cc
   value_safe (Some v) h = tt
@@ -138,13 +138,13 @@ module _ (env : TypeEnv) (world : World) (closed : has_external env.schema ≡ f
 -- ---- the capability
 
 module _ (world : World) (prior : Caps) (hold : AllHold world prior) (a b : Source) where
-  -- where it is known the tag is there
+  -- the tag is there if the capability for it is known
   known_there : prior (tag_of a b) ≡ true → HasTag world.store (eval world a) (eval world b)
   known_there k =
       subst (λ o. HasTag world.store o (eval world b)) (eval_form world a)
       (subst (HasTag world.store (eval world (form_of a))) (eval_form world b) (hold (tag_of a b) k))
 
-  -- it holds where the tag is there
+  -- the capability for the tag holds if the tag is there
   there_holds : HasTag world.store (eval world a) (eval world b) → AllHold world (single (tag_of a b))
   there_holds h =
       hold_just world (tag_of a b)
@@ -157,7 +157,7 @@ operands world a b = eval world a ∷ eval world b ∷ []
 
 -- ---- `hasTag`
 
--- the type is True only where the tag is known to be there
+-- the type of `hasTag` is True only if the tag is known to be there
 sure_known : (ts : List Ty) (known : Bool) → IsSure (Some (has_tag_type ts known)) → known ≡ true
 sure_known [] known h = absurd h
 sure_known (t ∷ ts) true h = refl
@@ -211,7 +211,7 @@ module _ (strictly : Bool) (env : TypeEnv) (world : World) (strict : is_strict e
   abbrev got_form : Form
   got_form = get_tag_form env m prior a b
 
-  -- what the table says of a type, by whether the tag is known to be there
+  -- the table's decision on a type, by whether the tag is known to be there
   abbrev guarded : Bool → Ty → List Finding → Decision
   guarded known s fs = if known then get_known_tag env m.place s (tag_types env.schema s) else refuses None fs
 

@@ -1,4 +1,4 @@
--- What typing promises of operands that have to be Boolean, as tests.
+-- Promises of typing on operands that have to be Boolean, as tests.
 use Rattle.std.proofs.Common.{◌≡◌, Bool, true, false, not, List, Option, Some, None, option_map, refl, sym, ◌∙◌, ap, subst, arith}
 use Rattle.std.specs.Prelude.{IsTrue}
 use Rattle.cedar_types.specs.declared.base.location.Loc.{Loc}
@@ -33,7 +33,7 @@ BoolSortHas AnyValue b = Unit {0}
 BoolSortHas OnlyTrue b = IsTrue b
 BoolSortHas OnlyFalse b = IsTrue (not b)
 
--- the boolean, if there is one, is of the type, if one was found
+-- the boolean of the test, if there is one, has the type that was found, if one was
 abbrev pub TestHas : Test → Option BoolSort → Type 0
 TestHas (Says b) (Some k) = BoolSortHas k b
 TestHas (Says b) None = Unit {0}
@@ -48,7 +48,7 @@ SureSort (Some NoValue) = Unit {0}
 SureSort (Some OnlyTrue) = Unit {0}
 SureSort _ = ⊥
 
--- what is promised of an operand as a test
+-- the promise on an operand, as a test
 pub record SoundTest (world : World) (s : Test) (succeeded : Bool) (k : Option BoolSort) (c : Caps) : Type 0 where
   pub typed : TestHas s k
   pub safe : IsTrue succeeded → SafeTest s

@@ -1,4 +1,4 @@
--- `if`, `&&` and `||`: what typing drops is not evaluated.
+-- `if`, `&&` and `||`: evaluation skips each part that typing drops.
 use Rattle.std.proofs.Common.{◌≡◌, Bool, true, false, true≢false, List, Option, Some, None, refl, sym, ◌∙◌, ap, subst}
 use Rattle.cedar_types.specs.declared.base.location.Loc.{Loc}
 use Rattle.cedar_types.specs.declared.base.types.BoolType.TheVariants.{True, False}
@@ -24,7 +24,7 @@ use Rattle.cedar_typing.proofs.TypedCopies.Same.{eval_marked, IsClosed, ToldPart
 
 -- ---- outcomes
 
--- each branch counts where the test says so
+-- a branch counts only if the test picks it
 chosen : (o : Outcome) (y z p q : Outcome) → (IsTrueOutcome o → y ≡ p) → (o ≡ Gives (VBool false) → z ≡ q)
     → choose (test_of o) y z ≡ choose (test_of o) p q
 chosen (Gives (VBool true)) y z p q f g = f refl
@@ -32,13 +32,13 @@ chosen (Gives (VBool false)) y z p q f g = g refl
 chosen (Gives v) y z p q f g = refl
 chosen (Fails e) y z p q f g = refl
 
--- where the test is True, or fails, the first branch may stand for both
+-- the first branch may stand for both if the test is True or fails
 chosen_true : (o : Outcome) → HasFound (Some (TBool True)) o → (z p q : Outcome) → z ≡ p
     → choose (test_of o) z z ≡ choose (test_of o) p q
 chosen_true o h z p q e =
     chosen o z z p q (λ i. e) (λ n. absurd (true≢false (sym (subst (HasFound (Some (TBool True))) n h))))
 
--- where it is False, or fails, the other branch
+-- the other branch may stand for both if the test is False or fails
 chosen_false : (o : Outcome) → HasFound (Some (TBool False)) o → (z p q : Outcome) → z ≡ q
     → choose (test_of o) z z ≡ choose (test_of o) p q
 chosen_false (Gives (VBool true)) h z p q e = cc
@@ -46,7 +46,7 @@ chosen_false (Gives (VBool false)) h z p q e = e
 chosen_false (Gives v) h z p q e = absurd h
 chosen_false (Fails f) h z p q e = refl
 
--- the first branch counts where the test is true
+-- the first branch counts only if the test is true
 chosen_open : (o : Outcome) (y z p q : Outcome) → (IsTrueOutcome o → y ≡ p) → z ≡ q
     → choose (test_of o) y z ≡ choose (test_of o) p q
 chosen_open o y z p q f e = chosen o y z p q f (λ n. e)
@@ -58,14 +58,14 @@ false_alone (Gives (VBool false)) p h = refl
 false_alone (Gives v) p h = absurd h
 false_alone (Fails f) p h = refl
 
--- `||` with a left side that is True, or fails
+-- `||` with a left side that is True, or fails, is that side alone
 true_alone : (o p : Outcome) → HasFound (Some (TBool True)) o → o ≡ of_test (or_test (test_of o) (test_of p))
 true_alone (Gives (VBool true)) p h = refl
 true_alone (Gives (VBool false)) p h = cc
 true_alone (Gives v) p h = absurd h
 true_alone (Fails f) p h = refl
 
--- the right side of `&&` counts where the left one is true
+-- the right side of `&&` counts only if the left side is true
 and_sides : (o p p' : Outcome) → (IsTrueOutcome o → p' ≡ p)
     → of_test (and_test (test_of o) (test_of p')) ≡ of_test (and_test (test_of o) (test_of p))
 and_sides (Gives (VBool true)) p p' f = ap (λ z. of_test (test_of z)) (f refl)
@@ -122,7 +122,7 @@ module _ (S : TypedTree → Type 0) (Known : Caps → Type 0) (R : Type 0) (worl
         by_test a b e (test.derivations u k a d w.0)
         (chosen_open o (eval world b) (eval world e) p q f (otherwise.derivations v' k'' e d'' w.2))
 
-    -- what is told of a test by the type that is found of it
+    -- the facts about a test, by the type that was found of it
     found_told : R → (g : Bool) (k : Caps) (a : TypedTree) (fs : List Finding) → Operand env bool_types l A g k a fs
         → (z : Option Ty) → annotation a ≡ z → ToldPart S Known R o z k
     found_told r g k a fs i z e = subst (λ z. ToldPart S Known R o z k) e (told.operands r env bool_types l g k a fs i)

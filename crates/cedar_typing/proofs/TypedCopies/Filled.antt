@@ -1,5 +1,5 @@
--- A world in which some slots are bound to nothing, and the same with these bound too: an expression evaluates to the same in both, or
--- fails in the first for a slot that is not bound.
+-- Two worlds, of which the second binds slots that the first leaves unbound: an expression has one
+-- outcome in both, or fails in the first because of an unbound slot.
 use Rattle.std.proofs.Common.{◌≡◌, true, false, Option, Some, None, refl, sym, subst}
 use Rattle.cedar_types.specs.declared.base.names.slots.SlotId.{SlotId}
 use Rattle.cedar_types.specs.declared.base.expressions.operators.UnaryOp.{UnaryOp}
@@ -54,7 +54,7 @@ filled_fits (Declared d ps rs) world h =
     (h.0, filled_slot ps (world.slots SlotId.Principal) _ h.1, filled_slot rs (world.slots SlotId.Resource) _ h.2)
 filled_fits Undeclared world h = absurd h
 
--- ---- outcomes: the same, or a slot that is not bound
+-- ---- outcomes that are equal, or of which the first is an unbound slot
 
 pub data IsBelow : Outcome → Outcome → Type 0 where
   itself : {o : Outcome} → IsBelow o o
@@ -68,7 +68,7 @@ data EntriesBelow : EntryOutcomes → EntryOutcomes → Type 0 where
   same_entries : {o : EntryOutcomes} → EntriesBelow o o
   unlinked_entry : {o : EntryOutcomes} → EntriesBelow (FailEntry UnlinkedSlot) o
 
--- what stays with a failure
+-- a function that keeps the failure of an unbound slot keeps the relation
 below_by : (g : Outcome → Outcome) → g (Fails UnlinkedSlot) ≡ Fails UnlinkedSlot → (o o' : Outcome) → IsBelow o o' → IsBelow (g o) (g o')
 below_by g e o o' itself = itself
 below_by g e o o' unlinked = subst (λ z. IsBelow z (g o')) (sym e) unlinked
@@ -183,7 +183,7 @@ module _ (world : World) where
     fields_below no_fields = same_entries
     fields_below (field k t fs) = more_entries_below k _ _ _ _ (eval_below t) (fields_below fs)
 
--- ---- what is told of the second is told of the first
+-- ---- the facts about the second outcome hold of the first
 
 failed_has : (found : Option Ty) (f : Failure) → HasFound found (Fails f)
 failed_has None f = tt

@@ -1,4 +1,4 @@
--- All expressions: their typed copies evaluate to what they evaluate to.
+-- All expressions: each typed copy evaluates as its expression does.
 use Rattle.std.proofs.Common.{ℕ, ◌+◌, Bool, true, List, [], ◌∷◌, refl, ap, subst}
 use Rattle.cedar_types.specs.declared.base.expressions.operators.BinaryOp.{BinaryOp}
 use Rattle.cedar_types.specs.declared.base.expressions.operators.UnaryOp.{UnaryOp}
@@ -62,7 +62,7 @@ module _ (S : TypedTree → Type 0) (Known : Caps → Type 0) (R : Type 0) (s : 
       (λ k a c. ap (eval world) (node k (a ∷ c ∷ [])))
       (λ k a c h. closed.two k op a c (subst S (node k (a ∷ c ∷ [])) h))
 
-  -- ---- the induction, by what is told of each expression whose slots are bound
+  -- ---- the induction, from the facts about each expression whose slots are bound
 
   module _ (told : (e : Source) → SlotsBound b e → (prior : Caps) (d : ℕ) → Known prior
       → Told S Known R (eval world e) (rules s e prior d)) where

@@ -27,7 +27,7 @@ use Rattle.cedar_typing.proofs.Composition.Slots.{slots_bound}
 use Rattle.cedar_typing.proofs.TypedCopies.Filled.{filled_world, all_filled, filled_fits, eval_below, told_below}
 use Rattle.cedar_typing.proofs.TypedCopies.Same.{AllOf, FieldsOf, IsClosed, Told, Copies, operand_copied}
 
--- of every copy
+-- the predicate that holds of every copy
 abbrev pub Any : TypedTree → Type 0
 Any x = Unit {0}
 
@@ -57,7 +57,7 @@ any_closed = record {
   values = λ k fs h. any_fields fs;
 }
 
--- type soundness tells what has to be known
+-- type soundness gives the facts that the induction needs about an outcome
 pub told_by_soundness : (world : World) (o : Outcome) (J : Judgment) → Sounds world o J → Told Any (AllHold world) (Unit {0}) o J
 told_by_soundness world o J i = record {
   derivations = λ t c x d h.
@@ -80,9 +80,9 @@ module _ (s : Setting) (world : World) (faults : has_fault s.env.schema ≡ fals
       e b prior d h in
       record { derived = λ t c x k. q.derivations t c x k tt; recovered = λ x es k. q.recoveries tt x es k tt }
 
-  -- ---- where some slots are bound to nothing
+  -- ---- worlds in which some slots are unbound
 
-  -- the world with those bound too
+  -- the world in which these slots are bound too
   abbrev filled : World
   filled = filled_world world
 

@@ -22,7 +22,7 @@ use Rattle.cedar_types.specs.Values.{no_values, no_entries}
 use Rattle.cedar_typing.proofs.TypedCopies.Same.{AllOf, FieldsOf, IsClosed, Copies, expected_copied}
 
 module _ (S : TypedTree → Type 0) (R : Type 0) (world : World) (closed : IsClosed S) where
-  -- ---- a whole, by what is shown of its operands: one lemma for all forms
+  -- ---- a whole, by the copies of its operands: one lemma for all forms
 
   module _ (f : Form) (Js : Judgments) (o : Outcome)
       (derived : (k : Mark) (xs : List TypedTree) → Js.derive xs → S (f.node k xs) → eval world (f.node k xs) ≡ o)

@@ -1,4 +1,5 @@
--- In the own environment a typed copy of a policy's condition evaluates as the condition does, whatever the slots are bound to.
+-- A typed copy of a policy's condition in the own environment evaluates as the condition does,
+-- whatever the slots are bound to.
 use Rattle.std.proofs.Common.{◌≡◌, ℕ, ◌+◌, true≢false, Option, Some, None, refl, sym, ◌∙◌, subst}
 use Rattle.cedar_types.specs.declared.base.expressions.operators.BinaryOp.{BinaryOp}
 use Rattle.cedar_types.specs.declared.base.expressions.operators.Var.{Var}
@@ -36,7 +37,7 @@ use Rattle.cedar_typing.proofs.TypedCopies.Laws.{Any, any_closed, told_by_soundn
 use Rattle.cedar_typing.proofs.TypedCopies.Same.{Told, ToldLeft, Copies, within_copies}
 use Rattle.cedar_typing.proofs.TypedCopies.Unbound.{unbound, free_of, bound_if_free}
 
--- an outcome that is false finds the type False
+-- an outcome that is at most one of the type False has the type False
 found_most : (o o' : Outcome) → IsAtMost (Unit {0}) o o' → HasFound (Some (TBool False)) o' → HasFound (Some (TBool False)) o
 found_most o o' itself h = h
 found_most o o' is_false h = refl
@@ -56,12 +57,12 @@ module _ (s : Setting) (t : PlainTemplate) (d : DeclaredEnv) (world : World) whe
   abbrev Copied : Outcome → Judgment → Type 0
   Copied = Copies Any (Unit {0}) world
 
-  -- typing can be relied on in the own environment
+  -- typing in the own environment is sound in the world with own slots
   abbrev pub IsSoundInOwn : Type 0
   IsSoundInOwn = (e : Source) (prior : Caps) (k : ℕ) → AllHold own_bound prior → Sounds own_bound (eval own_bound e) (rules own e prior k)
 
   module _ (own_sound : IsSoundInOwn) where
-    -- ---- what mentions no slot
+    -- ---- expressions that mention no slot
 
     same_outcome : (e : Source) → MentionsNoSlot e → eval own_bound e ≡ eval world e
     same_outcome e free = eval_alike world (own_slots world.request) world.slots e (λ x m. absurd (true≢false (sym m ∙ free x)))
@@ -79,7 +80,7 @@ module _ (s : Setting) (t : PlainTemplate) (d : DeclaredEnv) (world : World) whe
 
     -- ---- parts of a condition
 
-    -- what is shown of a part: in the world it is false, or what it is with own slots; and its copies evaluate as it does
+    -- a part has at most its outcome with own slots, and its copies evaluate as it does
     record IsGood (e : Source) : Type 0 where
       pub lower : IsAtMost (Unit {0}) (eval world e) (eval own_bound e)
       pub copied : (prior : Caps) (k : ℕ) → Known prior → Copied (eval world e) (rules own e prior k)

@@ -1,4 +1,4 @@
--- What is handed out of a policy's condition.
+-- The typed conditions that the checks of a policy hand out mean its condition.
 use Rattle.std.proofs.Common.{◌≡◌, false, None, refl}
 use Rattle.cedar_types.specs.Environments.{DeclaredEnv, environments_of}
 use Rattle.cedar_types.specs.Environments.Linking.{checked_envs}

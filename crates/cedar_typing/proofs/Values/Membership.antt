@@ -125,8 +125,7 @@ module _ (s : Schema) (faults : has_fault s ≡ false) where
             (λ e. other (subst (λ w. is_action w ≡ true) (uid_same.to u v e) a))
             (λ e. other (ancestor_acts u v (sym (stored u v a) ∙ e))) k
 
-    -- so an action is in some entities exactly if the declarations have it among the actions of
-    -- these
+    -- an action is in some entities exactly if the declarations have it among the actions of these
     pub in_actions : (u : Uid) → is_action u ≡ true → (vs : List Uid)
         → list_any (is_in store u) vs ≡ is_action_in s.actions u (only_actions vs)
     in_actions u a [] = refl

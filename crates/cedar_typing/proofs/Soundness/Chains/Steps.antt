@@ -1,4 +1,4 @@
--- What the rest of a chain of extended `has` promises, and that a step keeps it where what comes after does.
+-- The promise on the rest of a chain of extended `has`: a step keeps it if the steps after it do.
 use Rattle.std.proofs.Common.{◌≡◌, Bool, true, false, ◌||◌, ◌&&◌, List, [], ◌∷◌, Option, Some, None, if◌then◌else◌, refl, sym, subst}
 use Rattle.std.specs.Prelude.{IsTrue}
 use Rattle.cedar_types.specs.declared.base.location.Loc.{Loc}
@@ -31,9 +31,10 @@ use Rattle.cedar_typing.proofs.Soundness.Capabilities.{eval_form, hold_none, hol
 use Rattle.cedar_typing.proofs.Soundness.Parts.{IsSure}
 use Rattle.cedar_typing.proofs.Values.Attributes.{required_has, has_says, has_not}
 
--- ---- what the rest of a chain has to show
+-- ---- the promise on the rest of a chain
 
--- where it gives a type: by what its base results in, and what it says where the steps so far are true
+-- the promise on a rest with the type u: it is safe, and its capabilities hold, if it and the steps
+-- so far are true
 pub record RestGift (world : World) (o : Outcome) (p : Progress) (t : Test) (u : Ty) (c : Caps) : Type 0 where
   pub safe : AllHold world p.earned → IsSafe o → IsSafe (of_test t)
   pub caps_hold_if_true : AllHold world p.earned → IsTrueOutcome (of_test t) → AllHold world c
@@ -46,11 +47,11 @@ RestIsSound world o p t (refuses u fs) = Unit {0}
 pub record SoundRest (world : World) (o : Outcome) (p : Progress) (t : Test) (d : Decision) : Type 0 where
   pub typed : HasFound (decided_type d) (of_test t)
   pub boolean : IsBool (decided_type d)
-  -- it is True only where each step so far was
+  -- the rest is True only if each step so far was
   pub sure : IsSure (decided_type d) → p.all_true ≡ true
   pub succeeds : RestIsSound world o p t d
 
--- where each step so far was True, what was earned holds, whatever the chain says
+-- the earned capabilities hold if each step so far was True
 abbrev pub HoldsIfSure : World → Progress → Type 0
 HoldsIfSure world p = p.all_true ≡ true → AllHold world p.earned
 
@@ -104,7 +105,7 @@ undeclared_not_true : (b : Bool) → is_true (if b then TBool AnyBool else TBool
 undeclared_not_true true h = cc
 undeclared_not_true false h = cc
 
--- that of another is False where no value has it
+-- the test of another attribute is False only if no value has it
 pub false_if : (b : Bool) → is_false (if b then TBool AnyBool else TBool False) ≡ true → b ≡ false
 false_if true h = cc
 false_if false h = refl
@@ -118,7 +119,7 @@ object_accepted s h = cc
 
 -- ---- ends of a chain
 
--- where it is refused it is Bool
+-- a refused rest is Bool
 pub refused_rest : (world : World) (o : Outcome) (p : Progress) (t : Test) (fs : List Finding) → SoundRest world o p t (refuses (Some (TBool AnyBool)) fs)
 refused_rest world o p t fs = record { typed = any_test t; boolean = (AnyBool, refl); sure = λ h. absurd h; succeeds = tt }
 
@@ -170,7 +171,7 @@ module _ (env : TypeEnv) (world : World) (conforms : ConformingStore env.schema 
       subst (λ z. IsSafe (of_test (and_test z t))) (sym c.1) (and_safe c.0 t (λ n. k (subst SaysTrue (sym c.1) n)))
   step_safe s (Fails f) a h k g = g
 
-  -- it is False where no value of the type has x
+  -- the step is False if no value of the type has x
   step_false : (s : Ty) (o : Outcome) → accepts object_types s ≡ true → HasFound (Some s) o → may_have env.schema s x ≡ false
       → HasFound (Some (TBool False)) (of_test (from_step world x t o)) × (IsSafe o → IsSafe (of_test (from_step world x t o)))
   step_false s (Gives v) a h n =
@@ -178,9 +179,9 @@ module _ (env : TypeEnv) (world : World) (conforms : ConformingStore env.schema 
       (subst (λ z. HasFound (Some (TBool False)) (of_test (and_test z t))) e refl, λ g. subst (λ z. IsSafe (of_test (and_test z t))) e tt)
   step_false s (Fails f) a h n = (tt, λ g. g)
 
--- ---- what is known
+-- ---- known attributes
 
--- that e has x: before the chain, or by what it has earned
+-- whether it is known that e has x: from before the chain, or from the steps so far
 abbrev pub known : Caps → Source → Text → Progress → Bool
 known prior e x p = union prior p.earned (attribute_of e x)
 
@@ -213,19 +214,19 @@ module _ (env : TypeEnv) (world : World) (conforms : ConformingStore env.schema 
       required_has env.schema x world.store conforms s u v (and_right r (is_record s) n) k (subst P (and_left r (is_record s) n) f)
   required_there u r (Fails z) k f n = tt
 
-  -- where a step is True, the attribute is there
+  -- the attribute is there if the step is True
   true_there : AllHold world p.earned → (a : Option (Ty × Bool)) → found ≡ a → is_true (type_at a) ≡ true → HasAttribute world.store x base
   true_there k (Some a) f n =
       or_cases known_now (a.1 && is_record s) (HasAttribute world.store x base) (known_there world prior hold e x p k)
       (required_there a.0 a.1 base h f) (true_if (known_now || (a.1 && is_record s)) n)
   true_there k None f n = absurd (undeclared_not_true (may_have env.schema s x) n)
 
-  -- where it is False, no value of the type has it
+  -- no value of the type has the attribute if the step is False
   false_absent : (a : Option (Ty × Bool)) → is_false (type_at a) ≡ true → may_have env.schema s x ≡ false
   false_absent (Some a) n = absurd (declared_not_false (known_now || (a.1 && is_record s)) n)
   false_absent None n = false_if (may_have env.schema s x) n
 
-  -- what a step earns holds where it is true
+  -- the capability that a step earns holds if the attribute is there
   earned_holds : (a : Option (Ty × Bool)) → HasAttribute world.store x base → AllHold world (earned_at a)
   earned_holds (Some a) k = by (is_true (type_at (Some a)))
     where

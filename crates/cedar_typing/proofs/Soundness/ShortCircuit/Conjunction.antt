@@ -51,7 +51,7 @@ false_has s t h = grind arith
 false_safe : (s t : Test) → TestHas s (Some OnlyFalse) → SafeTest s → SafeTest (and_test s t)
 false_safe s t h i = grind arith
 
--- a type that is accepted and of which a test says something, by its sort
+-- the sort of an accepted type, by a test that only one sort passes
 says_sort : (test : Ty → Bool) (x : Option Ty) (k : BoolSort) → ((l : BoolSort) → test (sort_ty l) ≡ true → l ≡ k)
     → x ≡ option_map sort_ty (sort_of x) → annotation_passes test x ≡ true → sort_of x ≡ Some k
 says_sort test x k only e h = go (sort_of x) (sym (ap (annotation_passes test) e) ∙ h)
@@ -102,14 +102,14 @@ module _ (world : World) where
     caps_hold_at_true = caps_hold_at_true;
   }
 
-  -- what is sound of a success of a certain type, where that is the type
+  -- a promise that follows at the type t follows at each type equal to it
   pub at_type : (t s : Ty) (o p : Outcome) (c c' : Caps) → s ≡ t → (Sound world o true (Some t) c → Sound world p true (Some t) c')
       → Sound world o true (Some s) c → Sound world p true (Some s) c'
   at_type t s o p c c' e f h =
       let P : Ty → Type 0 = λ s. Sound world o true (Some s) c → Sound world p true (Some s) c' in
       subst P (sym e) f h
 
-  -- a whole that its left side ends, where that side failed: it stands for the whole
+  -- a left side that failed and ends the whole may stand for the whole
   pub ended_failed : (env : TypeEnv) (l : Option Loc) (o p : Outcome) (A : Judgment) → Sounds world o A
       → (k : Caps) (a : TypedTree) (es : List Finding) → Operand env bool_types l A false k a es
       → (sort : BoolSort) → sort_of (annotation a) ≡ Some sort → (TestHas (test_of o) (Some sort) → HasFound (Some (sort_ty sort)) p)

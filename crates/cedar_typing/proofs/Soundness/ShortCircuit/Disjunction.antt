@@ -40,7 +40,7 @@ true_has s t h = grind arith
 true_safe : (s t : Test) → TestHas s (Some OnlyTrue) → SafeTest s → SafeTest (or_test s t)
 true_safe s t h i = grind arith
 
--- true by a side of which nothing else can be true
+-- the left side is true if the whole is, and the right side is False
 left_true : (s t : Test) → TestHas t (Some OnlyFalse) → SaysTrue (or_test s t) → SaysTrue s
 left_true s t h n = grind arith
 
@@ -65,7 +65,7 @@ module _ (world : World) where
   or_hold s t OnlyFalse AnyValue c c' h i n = i.caps_hold_if_true (right_true s t h.typed n)
   or_hold s t k l c c' h i n = either_true s t c c' h.caps_hold_if_true i.caps_hold_if_true n
 
-  -- where the whole is True, the side that makes it so hands on what holds in any case
+  -- the capabilities of a True whole hold, because one side makes it True
   or_sure : (k l : BoolSort) (c c' : Caps) → (SureSort (Some k) → AllHold world c)
       → (SureSort (Some l) → AllHold world c') → IsSure (Some (sides_type disjunction (sort_ty k) (sort_ty l)))
       → AllHold world (sides_caps disjunction (sort_ty k) (sort_ty l) c c')
