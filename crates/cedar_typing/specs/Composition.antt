@@ -1,4 +1,4 @@
--- What the checks of a template in its environments say together.
+-- Conclusions from the checks of a template in all its environments.
 use Rattle.std.specs.Prelude.{◌≡◌, ℕ, ◌+◌, ◌≤◌, Bool, true, false, List, Option, Some, None, ◌↔◌}
 use Rattle.cedar_types.specs.declared.base.expressions.operators.BinaryOp.{BinaryOp}
 use Rattle.cedar_types.specs.declared.base.expressions.operators.Var.{Var}
@@ -42,7 +42,7 @@ in_env s e = record s { env = record s.env { request_env = e } }
 abbrev pub MentionsNoSlot : Source → Type 0
 MentionsNoSlot e = (x : SlotId) → mentions_slot x e ≡ false
 
--- nor does what need not be there, if it is
+-- the expression, if there is one, mentions neither slot
 abbrev pub NoSlotIn : Option Source → Type 0
 NoSlotIn None = Unit {0}
 NoSlotIn (Some e) = MentionsNoSlot e
@@ -58,21 +58,24 @@ abbrev pub own_link : Bool → Path → Option Path
 own_link true own = Some own
 own_link false own = None
 
--- an environment of the schema with each slot that the template has linked to its variable's own type
+-- an environment of the schema with each slot that the template has linked to its variable's own
+-- type
 abbrev pub own_env : PlainTemplate → DeclaredEnv → Env
 own_env t d =
     Declared d
     (own_link (has_slot SlotId.Principal t) d.principal)
     (own_link (has_slot SlotId.Resource t) d.resource)
 
--- where the slots stand in the scope alone, the own environment is checked, by any schema in any mode
+-- where the slots stand in the scope alone, the own environment is checked, by any schema in any
+-- mode
 abbrev pub OwnEnvIsChecked : Type 0
 OwnEnvIsChecked =
     (s : Schema) (m : ValidationMode) (t : PlainTemplate) → SlotsInScopeAlone t
     → (d : DeclaredEnv) → IsOneOf d (environments_of s.actions)
     → IsOneOf (own_env t d) (checked_envs s m t)
 
--- it is so wherever the slots stand, by a schema without faults, if no action is principal or resource
+-- it is so wherever the slots stand, by a schema without faults, if no action is principal or
+-- resource
 abbrev pub OwnEnvIsCheckedOfTypes : Type 0
 OwnEnvIsCheckedOfTypes =
     (s : Schema) (m : ValidationMode) (t : PlainTemplate) → has_fault s ≡ false
@@ -93,14 +96,15 @@ AreTypedBool s v x =
     → IsTypedBool s (binary m BinaryOp.Eq (var n v) (slot o x))
     × IsTypedBool s (binary m BinaryOp.In (var n v) (slot o x))
 
--- the tests of a variable against its slot are Bool where the slot is linked to the variable's own type
+-- the tests of a variable against its slot are Bool where the slot is linked to the variable's own
+-- type
 abbrev pub OwnTestsAreBool : Type 0
 OwnTestsAreBool =
     (s : Setting) (d : DeclaredEnv) (link : Option Path)
     → AreTypedBool (in_env s (Declared d (Some d.principal) link)) Var.Principal SlotId.Principal
     × AreTypedBool (in_env s (Declared d link (Some d.resource))) Var.Resource SlotId.Resource
 
--- ---- what mentions no slot
+-- ---- expressions that mention no slot
 
 -- e is typed in the same way in both settings: derived, recovered and cut
 pub record IsTypedAlike (s s' : Setting) (e : Source) (prior : Caps) (k : ℕ) : Type 0 where
@@ -110,7 +114,7 @@ pub record IsTypedAlike (s s' : Setting) (e : Source) (prior : Caps) (k : ℕ) :
       → Recovers s e prior k x es ↔ Recovers s' e prior k x es
   pub cut : (es : List Finding) → Cuts s e prior k es ↔ Cuts s' e prior k es
 
--- what mentions no slot is typed in the same way whatever the slots are linked to
+-- an expression that mentions no slot is typed in one way, whatever the slots are linked to
 abbrev pub LinksDoNotMatter : Type 0
 LinksDoNotMatter =
     (s : Setting) (d : DeclaredEnv) (p r p' r' : Option Path) (e : Source) → MentionsNoSlot e
@@ -125,9 +129,9 @@ ScopeIsBoolean =
     (t : PlainTemplate) (world : World) → SlotsBound world.slots (scope_condition t)
     → (b : Bool) × (eval world (scope_condition t) ≡ Gives (VBool b))
 
--- where the scope is true, one of the environments that are checked fits: of a request of the schema whose principal and
--- resource are no actions, in a store that conforms to a schema without faults and external declarations, where the slots
--- stand in the scope alone and are bound
+-- where the scope is true, one of the environments that are checked fits: of a request of the
+-- schema whose principal and resource are no actions, in a store that conforms to a schema without
+-- faults and external declarations, where the slots stand in the scope alone and are bound
 abbrev pub Coverage : Type 0
 Coverage =
     (s : Schema) (m : ValidationMode) (t : PlainTemplate) (world : World)
@@ -140,8 +144,8 @@ Coverage =
 
 -- ---- a condition that is warned to be impossible
 
--- the setting of which the theorems below speak: in Strict or in Permissive, a schema and a table without faults, nothing
--- external
+-- the setting of which the theorems below speak: in Strict or in Permissive, a schema and a table
+-- without faults, nothing external
 pub record IsFaultless (s : Setting) : Type 0 where
   pub mode : IsSoundMode s.env.mode
   pub schema : has_fault s.env.schema ≡ false
@@ -167,14 +171,14 @@ IsTrueOfNone s t =
     → ConformingStore s.env.schema world.store → KeepsTable (table s) world.functions
     → IsTrueOutcome (eval world (condition_of t)) → ⊥
 
--- what is irrelevant in all environments is true of none
+-- a condition that is irrelevant in all environments is true of no request
 abbrev pub NeverTrue : Type 0
 NeverTrue =
     (s : Setting) (t : PlainTemplate) → IsFaultless s → SlotsInScopeAlone t → IsIrrelevantInAll s t
     → IsTrueOfNone s t
 
--- a check that succeeds in the own environment alone keeps its promise in each world of the request, whatever the slots
--- are bound to, if they are
+-- a check that succeeds in the own environment alone keeps its promise in each world of the
+-- request, whatever the slots are bound to, if they are
 abbrev pub IsKeptFromOwn : Setting → PlainTemplate → Type 0
 IsKeptFromOwn s t =
     (d : DeclaredEnv) → IsOneOf d (environments_of s.env.schema.actions)

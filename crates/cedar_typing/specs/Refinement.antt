@@ -1,5 +1,5 @@
--- Strict is a refinement of Permissive: what Strict derives, Permissive derives just the same, and what passes in Strict passes
--- in Permissive.
+-- Strict is a refinement of Permissive: Permissive has each derivation of Strict, and a policy that
+-- passes in Strict passes in Permissive.
 use Rattle.std.specs.Prelude.{◌≡◌, ◌↔◌, ℕ, Bool, true, List, [], None, Some}
 use Rattle.cedar_types.specs.declared.base.types.ValidationMode.{ValidationMode}
 use Rattle.cedar_types.specs.declared.base.types.ValidationMode.TheVariants.{Strict, Permissive, Partial}
@@ -36,16 +36,17 @@ StrictBoundIsKept =
 abbrev pub in_mode : ValidationMode → Setting → Setting
 in_mode m s = record s { env = record s.env { mode = m } }
 
--- names ascend in the types that typing starts from: those of the schema, the context's, and those that functions return
+-- names ascend in the types that typing starts from: those of the schema, the context's, and those
+-- that functions return
 pub record HasFormedTypes (s : Setting) : Type 0 where
   pub schema : has_formed_types s.env.schema ≡ true
   pub context : is_well_formed (context_ty s.env.request_env) ≡ true
   pub functions : (n : Path) (f : ExtensionFunction) → function_named n s.functions ≡ Some f
       → is_well_formed f.return_type ≡ true
 
--- what Strict says of it without an error, Permissive says just the same
+-- Permissive gives the expression each answer that Strict gives it without an error
 pub record IsKept (s : Setting) (e : Source) (prior : Caps) (d : ℕ) : Type 0 where
-  -- the same type, capabilities and typed copy
+  -- a derivation, with its type, capabilities and typed copy
   pub derived : (t : Ty) (c : Caps) (x : TypedTree)
       → Derives (in_mode Strict s) e prior d t c x → Derives (in_mode Permissive s) e prior d t c x
   -- a failure without an error, and the typed copy
@@ -57,8 +58,8 @@ abbrev pub StrictIsKept : Type 0
 StrictIsKept =
     (s : Setting) → HasFormedTypes s → (e : Source) (prior : Caps) (d : ℕ) → IsKept s e prior d
 
--- what Permissive derives, Partial derives just the same, in any environment and by any schema. Failures without an error are
--- others there: in Partial an entity that the schema does not know has a type
+-- Partial has each derivation of Permissive, in any environment and by any schema. Failures without
+-- an error are others there: in Partial an entity that the schema does not know has a type
 abbrev pub PermissiveIsKeptInPartial : Type 0
 PermissiveIsKeptInPartial =
     (s : Setting) (e : Source) (prior : Caps) (d : ℕ) (t : Ty) (c : Caps) (x : TypedTree)
@@ -66,7 +67,8 @@ PermissiveIsKeptInPartial =
 
 -- ---- the check of a condition
 
--- a verdict of Strict that passes, a success or irrelevant without errors, is one of Permissive: with the same typed condition
+-- a verdict of Strict that passes, a success or irrelevant without errors, is one of Permissive:
+-- with the same typed condition
 abbrev pub StrictCheckIsKept : Type 0
 StrictCheckIsKept =
     (s : Setting) → HasFormedTypes s → (e : Source) (v : Verdict) → passes v ≡ true
@@ -97,7 +99,8 @@ HasSameVerdicts b t =
     → PolicyChecks (setting_on (basis_in_mode Strict b) t.id env) (condition_of t) v
     ↔ PolicyChecks (setting_on (basis_in_mode Permissive b) t.id env) (condition_of t) v
 
--- what holds of each policy that passes in Strict, by a schema whose types are formed and a table without faults
+-- Holds for each policy that passes in Strict, by a schema whose types are formed and a table
+-- without faults
 abbrev pub WhereStrictPasses : (Basis → PlainTemplate → Type 0) → Type 0
 WhereStrictPasses Holds =
     (b : Basis) (t : PlainTemplate)

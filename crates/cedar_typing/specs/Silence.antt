@@ -1,5 +1,5 @@
--- Silence: in Strict and in Permissive, what fails without being cut has at least one error, where nothing
--- is unknown. So what passes is derived.
+-- Silence: in Strict and in Permissive, a failure that is not cut has an error, if nothing is
+-- unknown. So a condition that passes is derived.
 use Rattle.std.specs.Prelude.{◌≡◌, ℕ, Bool, true, false, List, [], None}
 use Rattle.std.specs.List.{list_any, flat_map}
 use Rattle.cedar_types.specs.declared.base.types.BoolType.TheVariants.{False}
@@ -26,7 +26,7 @@ use Rattle.cedar_typing.specs.Setting.{Setting}
 use Rattle.cedar_typing.specs.TypeTests.{accepts, bool_types, is_false}
 use Rattle.cedar_typing.specs.TypedExpr.{Source, TypedTree}
 
--- ---- what an expression names
+-- ---- the names in an expression
 
 abbrev pub is_unknown : {D : Type 0} → Tree D → Bool
 is_unknown (unknown d n) = true
@@ -36,8 +36,8 @@ is_unknown e = false
 abbrev pub HasNoUnknowns : Source → Type 0
 HasNoUnknowns e = list_any is_unknown (subexpressions e) ≡ false
 
--- the schema knows each type that the expression names: those of its entity literals, and those that it
--- tests for
+-- the schema knows each type that the expression names: those of its entity literals, and those
+-- that it tests for
 abbrev pub KnowsTypes : Schema → Source → Type 0
 KnowsTypes s e =
     list_any (λ n. is_unknown_type s n.name) (flat_map types_named (subexpressions e)) ≡ false
@@ -53,8 +53,8 @@ pub record IsWellNamed (s : Schema) (e : Source) : Type 0 where
   pub types : KnowsTypes s e
   pub actions : KnowsActions s e
 
--- nothing in a template is unknown: its condition has no unknown, and no type and no action of it is
--- found to be unknown
+-- nothing in a template is unknown: its condition has no unknown, and no type and no action of it
+-- is found to be unknown
 pub record IsWellNamedTemplate (s : Schema) (t : PlainTemplate) : Type 0 where
   pub unknowns : HasNoUnknowns (condition_of t)
   pub types : unknown_types s t ≡ []
@@ -65,7 +65,7 @@ abbrev pub ConditionIsWellNamed : Type 0
 ConditionIsWellNamed =
     (s : Schema) (t : PlainTemplate) → IsWellNamedTemplate s t → IsWellNamed s (condition_of t)
 
--- ---- what fails has an error
+-- ---- a failure has an error
 
 -- in Strict or in Permissive, by a schema and a table without faults
 pub record IsWithoutFaults (s : Setting) : Type 0 where
@@ -79,8 +79,8 @@ pub record IsSettled (s : Setting) : Type 0 where
   pub faultless : IsWithoutFaults s
   pub environment : IsEnvironmentOf s.env.schema s.env.request_env
 
--- an expression that fails has an error, whatever is known and at any depth. One that is cut need have
--- none: `Cuts` is no failure of this kind
+-- an expression that fails has an error, whatever is known and at any depth. One that is cut need
+-- have none: `Cuts` is no failure of this kind
 abbrev pub FailuresHaveErrors : Type 0
 FailuresHaveErrors =
     (s : Setting) → IsSettled s → (e : Source) → IsWellNamed s.env.schema e
@@ -93,10 +93,10 @@ SilentFailureIsCut =
     (s : Setting) → IsSettled s → (e : Source) → IsWellNamed s.env.schema e
     → (es : List Finding) → PolicyChecks s e (fails es) → is_silent es ≡ true → IsCut s e no_caps 1
 
--- ---- what passes is derived
+-- ---- a condition that passes is derived
 
--- the condition has a type, as the verdict says: a Boolean other than False of a success, and False where
--- it is irrelevant
+-- the condition has a type, as the verdict says: a Boolean other than False of a success, and False
+-- where it is irrelevant
 abbrev pub IsDerivedAs : Setting → Source → Verdict → Type 0
 IsDerivedAs s e (succeeds x) =
     (t : Ty) × (c : Caps) × Derives s e no_caps 1 t c x
@@ -104,8 +104,8 @@ IsDerivedAs s e (succeeds x) =
 IsDerivedAs s e (irrelevant es x) = (c : Caps) × Derives s e no_caps 1 (TBool False) c x
 IsDerivedAs s e (fails es) = ⊥
 
--- a verdict that passes, a success or irrelevant without errors, is of a condition that is derived. So
--- no part of it that is visited is too deep
+-- a verdict that passes, a success or irrelevant without errors, is of a condition that is derived.
+-- So no part of it that is visited is too deep
 abbrev pub PassingIsDerived : Type 0
 PassingIsDerived =
     (s : Setting) → IsSettled s → (e : Source) → IsWellNamed s.env.schema e

@@ -1,4 +1,4 @@
--- What typing promises of evaluation.
+-- The promises of typing on evaluation.
 use Rattle.std.specs.Prelude.{◌≡◌, ℕ, false, List, Option, Some, None, IsTrue}
 use Rattle.cedar_types.specs.declared.base.types.BoolType.TheVariants.{True}
 use Rattle.cedar_types.specs.Types.{Ty, TBool}
@@ -53,7 +53,7 @@ IsTrueOutcome (Fails f) = ⊥
 
 -- ---- type soundness with capabilities
 
--- what is promised of an expression in a world, where some capabilities are known
+-- the promise on an expression in a world, if some capabilities are known
 pub record IsSoundAt (s : Setting) (world : World) (e : Source) (prior : Caps)
     (d : ℕ) : Type 0 where
   -- a value has the type that was found, also that of a refused expression
@@ -61,12 +61,12 @@ pub record IsSoundAt (s : Setting) (world : World) (e : Source) (prior : Caps)
       → HasFound (annotation x) (eval world e)
   pub recovered : (x : TypedTree) (es : List Finding) → Recovers s e prior d x es
       → HasFound (annotation x) (eval world e)
-  -- what has a type gives a value or fails in an allowed way
+  -- a typed expression gives a value or fails in an allowed way
   pub safe : (t : Ty) (c : Caps) (x : TypedTree) → Derives s e prior d t c x → IsSafe (eval world e)
-  -- what it hands on holds where it is true
+  -- the capabilities of an expression hold if it is true
   pub caps_hold_if_true : (t : Ty) (c : Caps) (x : TypedTree) → Derives s e prior d t c x
       → IsTrueOutcome (eval world e) → AllHold world c
-  -- what an expression of the type True hands on holds whether or not it is evaluated
+  -- the capabilities of an expression of the type True hold, even if it is not evaluated
   pub caps_hold_at_true : (c : Caps) (x : TypedTree) → Derives s e prior d (TBool True) c x
       → AllHold world c
 
@@ -76,15 +76,15 @@ pub record IsWorldOf (s : Setting) (world : World) : Type 0 where
   pub store : ConformingStore s.env.schema world.store
   pub functions : KeepsTable (table s) world.functions
 
--- typing by this setting promises something of evaluation: in Strict or in Permissive, by a schema without external
--- declarations, in one of its environments
+-- typing by this setting promises something of evaluation: in Strict or in Permissive, by a schema
+-- without external declarations, in one of its environments
 pub record IsReliable (s : Setting) : Type 0 where
   pub mode : IsSoundMode s.env.mode
   pub closed : has_external s.env.schema ≡ false
   pub environment : IsEnvironmentOf s.env.schema s.env.request_env
 
--- by a schema and a table without faults, in a reliable setting and one of its worlds: what holds of each expression whose
--- slots are bound, where some capabilities are known
+-- Holds for each expression whose slots are bound, with known capabilities, by a schema and a table
+-- without faults, in a reliable setting and one of its worlds
 abbrev pub InReliableWorlds : (Setting → World → Source → Caps → ℕ → Type 0) → Type 0
 InReliableWorlds Holds =
     (s : Setting) (world : World)
@@ -95,6 +95,6 @@ InReliableWorlds Holds =
     → (prior : Caps) (d : ℕ) → AllHold world prior
     → Holds s world e prior d
 
--- what has a type does not go wrong
+-- type soundness: a typed expression does not go wrong
 abbrev pub TypeSoundness : Type 0
 TypeSoundness = InReliableWorlds IsSoundAt

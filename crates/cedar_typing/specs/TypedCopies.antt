@@ -1,4 +1,4 @@
--- A typed copy means what the expression means: it evaluates to the very same outcome.
+-- A typed copy means its expression: it evaluates to the very same outcome.
 use Rattle.std.specs.Prelude.{◌≡◌, ℕ, false, List, None}
 use Rattle.cedar_types.specs.Errors.{Finding}
 use Rattle.cedar_types.specs.Extensions.Functions.{table_fault}
@@ -18,7 +18,8 @@ pub mod Policies
 
 -- ---- an expression
 
--- the copy evaluates to what the expression evaluates to: the same value, or the same failure. Evaluation looks at no mark of a tree
+-- the copy evaluates as the expression does, to one value or one failure. Evaluation looks at no
+-- mark of a tree
 abbrev pub EvaluatesAs : World → TypedTree → Source → Type 0
 EvaluatesAs world x e = eval world x ≡ eval world e
 
@@ -43,8 +44,8 @@ CopiesMeanTheSame = InReliableWorlds MeansTheSame
 
 -- ---- the check of a condition in one environment
 
--- the typed condition of a check evaluates as the condition does: that of a success, and that of one that is never true, with
--- errors or without. A failed check has none
+-- the typed condition of a check evaluates as the condition does: that of a success, and that of
+-- one that is never true, with errors or without. A failed check has none
 abbrev pub VerdictMeansTheSame : World → Source → Verdict → Type 0
 VerdictMeansTheSame world e (succeeds x) = EvaluatesAs world x e
 VerdictMeansTheSame world e (irrelevant es x) = EvaluatesAs world x e

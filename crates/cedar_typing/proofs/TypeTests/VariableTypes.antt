@@ -1,6 +1,6 @@
 -- The test for equal types, to and from equality.
-use Rattle.std.proofs.Common.{◌≡◌, refl, sym, ap, subst, true, true≢false}
-use Rattle.std.specs.Prelude.{Option, Some, None, option_map}
+use Rattle.std.proofs.Common.{◌≡◌, ap, subst, true}
+use Rattle.std.specs.Prelude.{Some, option_map}
 use Rattle.cedar_types.proofs.Comparisons.SameTypes.{ty_to, ty_itself}
 use Rattle.cedar_types.specs.Types.Bounds.{ty_eq}
 use Rattle.cedar_types.specs.Types.{Ty}
@@ -9,7 +9,6 @@ use Rattle.cedar_types.specs.Environments.RequestEnvs.{env_of, principal_in, res
 use Rattle.cedar_types.specs.declared.types.request_env.RequestEnv.{RequestEnv}
 use Rattle.cedar_types.specs.declared.types.request_env.RequestEnv.TheVariants.{DeclaredAction, UndeclaredAction}
 use Rattle.cedar_typing.specs.Rules.Leaves.{linked_ty}
-use Rattle.cedar_typing.specs.Setting.VariableTypes.{same_if_any}
 
 pub kept : {s t : Ty} → s ≡ t → ty_eq s t ≡ true
 kept {s = s} e = subst (λ t. ty_eq s t ≡ true) e (ty_itself s)
@@ -25,18 +24,5 @@ pub kept_resource : {t : Ty} (e : RequestEnv) → t ≡ linked_ty (option_map (�
 kept_resource (DeclaredAction p a r c ps rs) same = kept same
 kept_resource UndeclaredAction same = kept same
 
-pub is_kept : {s t : Ty} → ty_eq s t ≡ true → s ≡ t
-is_kept {s = s} {t = t} = ty_to s t
-
-same_itself : (o : Option Ty) → same_if_any o o ≡ true
-same_itself None = refl
-same_itself (Some t) = ty_itself t
-
-pub kept_if_any : {o p : Option Ty} → o ≡ p → same_if_any o p ≡ true
-kept_if_any {o = o} e = subst (λ p. same_if_any o p ≡ true) e (same_itself o)
-
-pub is_kept_if_any : {o p : Option Ty} → same_if_any o p ≡ true → o ≡ p
-is_kept_if_any {o = None} {p = None} h = refl
-is_kept_if_any {o = Some s} {p = Some t} h = ap Some (ty_to s t h)
-is_kept_if_any {o = None} {p = Some t} h = absurd (true≢false (sym h))
-is_kept_if_any {o = Some s} {p = None} h = absurd (true≢false (sym h))
+pub some_is_kept : {s t : Ty} → ty_eq s t ≡ true → Some s ≡ Some t
+some_is_kept {s = s} {t = t} h = ap Some (ty_to s t h)

@@ -60,17 +60,19 @@ abbrev pub equality_decides : TypeEnv → Option Loc → Ty → Option Ty → Op
 equality_decides env l u s t =
     if is_any_bool u then gives_unless (strict_errors env l Equality s t) u else gives u no_caps
 
+-- the decision on `a == b` at a place, from the types of both
+abbrev pub compared : TypeEnv → Option Loc → Source → Source → Option Ty → Option Ty → Decision
+compared env l a b s t =
+    equality_decides env l
+    (equality_type (literal_of env.request_env a) (literal_of env.request_env b) s t) s t
+
 -- `a == b`. Both operands are typed in any case, even b after an a that is too deep
 abbrev pub equality_form : TypeEnv → Written → Source → Source → Form
 equality_form env m a b = record {
   at = m;
   expects = [];
   goes_on = true;
-  decides = λ ts.
-      equality_decides env m.place
-      (equality_type (literal_of env.request_env a) (literal_of env.request_env b)
-      (first_type ts) (second_type ts))
-      (first_type ts) (second_type ts);
+  decides = λ ts. compared env m.place a b (first_type ts) (second_type ts);
   type_if_failed = λ t. t;
   at_limit = λ ts. [];
   node = λ k xs. binary k BinaryOp.Eq (first_tree xs) (second_tree xs);

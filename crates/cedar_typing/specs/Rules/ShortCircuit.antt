@@ -1,5 +1,5 @@
--- The rules of `&&` and `||`: the left side may end the whole; else it decides what is known on the
--- right.
+-- The rules of `&&` and `||`: the left side may end the whole; else it decides which capabilities
+-- are known on the right.
 use Rattle.std.specs.Prelude.{◌≡◌, Bool, true, false, ◌&&◌, List, ◌++◌, Option, Some, if◌then◌else◌}
 use Rattle.cedar_types.specs.declared.base.location.Loc.{Loc}
 use Rattle.cedar_types.specs.declared.base.types.BoolType.TheVariants.{AnyBool}
@@ -115,8 +115,8 @@ module _ (env : TypeEnv) (f : Connective) (m : Written) (l l' : Option Loc)
   Right c = Operand env bool_types l' (B (f.right_prior prior c))
 
   pub data ShortCircuitRule : Ty → Caps → TypedTree → Type 0 where
-    -- the left side ends the whole: the typed copy is that side alone, at the place of the whole, and
-    -- the right side is not visited, because it is never evaluated
+    -- the left side ends the whole: the typed copy is that side alone, at the place of the whole,
+    -- and the right side is not visited, because it is never evaluated
     left_ends : {s : Ty} {c : Caps} {a : TypedTree}
         → A.derives s c a → accepts bool_types s ≡ true → f.ends s ≡ true
         → ShortCircuitRule s (f.ended_caps c) (at_place m.place a)

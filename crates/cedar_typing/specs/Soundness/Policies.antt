@@ -1,4 +1,4 @@
--- What is promised of a policy that passes, and of one that is warned to be impossible.
+-- The promises on a policy that passes, and on one that is warned to be impossible.
 use Rattle.std.specs.Prelude.{◌≡◌, Bool, true, false, List, [], None}
 use Rattle.cedar_types.specs.declared.base.types.ValidationMode.{ValidationMode}
 use Rattle.cedar_types.specs.Errors.{Finding, Warning}
@@ -23,7 +23,7 @@ use Rattle.cedar_typing.specs.Silence.{HasNoUnknowns}
 use Rattle.cedar_typing.specs.Soundness.PolicyCheck.{IsBooleanOrAllowed}
 use Rattle.cedar_typing.specs.Soundness.{IsTrueOutcome}
 
--- what a checker stands on, whatever the policy and the environment
+-- the basis of a checker, whatever the policy and the environment
 pub record Basis : Type 0 where
   pub schema : Schema
   pub mode : ValidationMode
@@ -42,15 +42,15 @@ pub record IsNamedBySchema (s : Schema) (t : PlainTemplate) : Type 0 where
   pub types : unknown_types s t ≡ []
   pub actions : unknown_actions s t ≡ []
 
--- of the policy and its links: it has no unknowns, its slots stand in the scope alone, and each that
--- occurs is bound, to any entity
+-- of the policy and its links: it has no unknowns, its slots stand in the scope alone, and each
+-- that occurs is bound, to any entity
 pub record IsWellFormed (t : PlainTemplate) (slots : Slots) : Type 0 where
   pub no_unknowns : HasNoUnknowns (condition_of t)
   pub slots_in_scope : SlotsInScopeAlone t
   pub bound : SlotsBound slots (condition_of t)
 
--- of the world: its request and its store conform to the schema, and its extension functions keep the
--- table
+-- of the world: its request and its store conform to the schema, and its extension functions keep
+-- the table
 pub record IsConforming (b : Basis) (world : World) : Type 0 where
   pub request : ConformingRequest b.schema world.request
   pub store : ConformingStore b.schema world.store
@@ -58,8 +58,8 @@ pub record IsConforming (b : Basis) (world : World) : Type 0 where
 
 -- ---- the promises
 
--- where the policy passes, its condition evaluates to a boolean, or fails only for a missing entity, an
--- overflow or an extension call
+-- where the policy passes, its condition evaluates to a boolean, or fails only for a missing
+-- entity, an overflow or an extension call
 abbrev pub PolicyIsSafe : Basis → PlainTemplate → Bool → Type 0
 PolicyIsSafe b t passes =
     passes ≡ true → IsSoundAndClosed b → IsNamedBySchema b.schema t
@@ -77,7 +77,7 @@ ImpossibleIsNeverTrue b t old new =
 
 -- ---- where they come from
 
--- what a policy of this name is typed in, in an environment
+-- the setting in which a policy of this name is typed, in an environment
 abbrev pub setting_on : Basis → Text → Env → Setting
 setting_on b policy env = record {
   env = record {
@@ -90,7 +90,7 @@ setting_on b policy env = record {
   functions = b.table.functions;
 }
 
--- what the check of the policy in all of its environments came to
+-- the outcome of the policy's check in all of its environments
 abbrev pub CheckedOn : Basis → PlainTemplate → Bool
     → List Finding → List Finding → List Warning → List Warning → Type 0
 CheckedOn b t =

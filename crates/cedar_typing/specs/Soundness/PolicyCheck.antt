@@ -1,4 +1,4 @@
--- What the check of a policy promises of its evaluation.
+-- The promise of a policy's check on its evaluation.
 use Rattle.std.specs.Prelude.{not, IsTrue}
 use Rattle.cedar_types.specs.Values.{Value, OnBool}
 use Rattle.cedar_typing.specs.Evaluation.Conformance.{SlotsBound}
@@ -19,16 +19,17 @@ IsFalse = OnBool (λ b. IsTrue (not b))
 abbrev pub IsBooleanOrAllowed : Outcome → Type 0
 IsBooleanOrAllowed o = IsSafe o × OnValue IsBoolean o
 
--- what a check promises of the outcome of the condition
+-- the promise of a check on the outcome of the condition
 abbrev pub Promises : Verdict → Outcome → Type 0
--- a success: that
+-- a success: a boolean or an allowed failure
 Promises (succeeds e) o = IsBooleanOrAllowed o
 -- a condition that is never true: a value, if there is one, is false
 Promises (irrelevant es e) o = OnValue IsFalse o
 -- a refused condition: nothing
 Promises (fails es) o = Unit {0}
 
--- the promise is kept in each world of a reliable setting in which the slots of the condition are bound
+-- the promise is kept in each world of a reliable setting in which the slots of the condition are
+-- bound
 abbrev pub IsSoundPolicyCheck : Setting → Source → Verdict → Type 0
 IsSoundPolicyCheck s e v =
     IsReliable s

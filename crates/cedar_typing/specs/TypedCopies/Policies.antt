@@ -1,4 +1,4 @@
--- What a host that goes on with typed conditions may rely on, of a policy.
+-- The guarantees on a policy for a host that goes on with typed conditions.
 use Rattle.std.specs.Prelude.{◌≡◌, false, None}
 use Rattle.cedar_types.specs.Environments.{DeclaredEnv, environments_of}
 use Rattle.cedar_types.specs.Environments.Linking.{checked_envs}
@@ -15,7 +15,8 @@ use Rattle.cedar_typing.specs.Soundness.{IsWorldOf}
 use Rattle.cedar_typing.specs.Soundness.Policies.{Basis, IsSoundAndClosed, IsConforming, setting_on}
 use Rattle.cedar_typing.specs.TypedCopies.{VerdictMeansTheSame}
 
--- the typed condition of each verdict of a policy in an environment evaluates as the policy's condition does in the world
+-- the typed condition of each verdict of a policy in an environment evaluates as the policy's
+-- condition does in the world
 abbrev pub MeansTheSameOn : Basis → PlainTemplate → Env → World → Type 0
 MeansTheSameOn b t env world =
     (v : Verdict) → PolicyChecks (setting_on b t.id env) (condition_of t) v
@@ -33,8 +34,9 @@ FittingCopiesMeanTheSame b t =
 
 -- ---- in the own environment, whatever the slots are bound to
 
--- of the environment of a request of the schema that links each slot to its variable's own type: in each world that conforms,
--- where the slots stand in the scope alone, bound to any entities or to none
+-- of the environment of a request of the schema that links each slot to its variable's own type: in
+-- each world that conforms, where the slots stand in the scope alone, bound to any entities or to
+-- none
 abbrev pub OwnCopiesMeanTheSame : Basis → PlainTemplate → Type 0
 OwnCopiesMeanTheSame b t =
     IsSoundAndClosed b → SlotsInScopeAlone t
@@ -42,8 +44,8 @@ OwnCopiesMeanTheSame b t =
     → (d : DeclaredEnv) → IsOneOf d (environments_of b.schema.actions) → FitsRequest d world.request
     → MeansTheSameOn b t (own_env t d) world
 
--- that environment is one of those that are checked: so in each world that conforms, one of the typed conditions that the checks
--- of the policy have evaluates as the template's condition does
+-- that environment is one of those that are checked: so in each world that conforms, one of the
+-- typed conditions that the checks of the policy have evaluates as the template's condition does
 abbrev pub SomeCopyMeansTheSame : Basis → PlainTemplate → Type 0
 SomeCopyMeansTheSame b t =
     IsSoundAndClosed b → SlotsInScopeAlone t

@@ -1,5 +1,5 @@
 -- Views of the program's checker and of its answers.
-use Rattle.std.specs.Prelude.{map}
+use Rattle.std.specs.Prelude.{List, map}
 use Rattle.std.specs.Borrow.{Bor}
 use Rattle.cedar_types.specs.declared.base.expressions.extensions.ExtensionSchemas.{ExtensionSchemas}
 use Rattle.cedar_types.specs.declared.base.schema.ValidatorSchema.{ValidatorSchema}
@@ -8,10 +8,12 @@ use Rattle.cedar_types.specs.declared.base.types.ValidationMode.{ValidationMode}
 use Rattle.cedar_types.specs.declared.types.request_env.RequestEnv.{RequestEnv}
 use Rattle.cedar_types.specs.Names.{text_of}
 use Rattle.cedar_types.specs.Schemas.Contents.{schema_of}
+use Rattle.cedar_types.specs.Environments.Linking.{checked_envs}
 use Rattle.cedar_types.specs.Environments.RequestEnvs.{Env, env_of}
 use Rattle.cedar_types.specs.Errors.{finding_of}
 use Rattle.cedar_types.specs.Extensions.Functions.{Refusals}
 use Rattle.cedar_types.specs.Extensions.{functions_of, overloaded_types_of}
+use Rattle.cedar_types.specs.Templates.{template_of}
 use Rattle.cedar_typing.specs.declared.typecheck.typechecker.PolicyCheck.{PolicyCheck}
 use Rattle.cedar_typing.specs.declared.typecheck.typechecker.PolicyCheck.TheVariants.{Success, Irrelevant, Fail}
 use Rattle.cedar_typing.specs.declared.typecheck.typechecker.Typechecker.{Typechecker}
@@ -52,6 +54,10 @@ module _ {C : Type 0} where
 
   abbrev pub setting_for : (C → Refusals) → Typechecker C → Template → RequestEnv → Setting
   setting_for meaning c t env = setting_within meaning c t (env_of env)
+
+  -- the environments in which a checker checks a template
+  abbrev pub envs_for : Typechecker C → Template → List Env
+  envs_for c t = checked_envs (schema_of (schema_by c).now) (mode_by c) (template_of t)
 
   -- the basis of a checker, whatever the template and the environment
   abbrev pub basis_of : (C → Refusals) → Typechecker C → Basis

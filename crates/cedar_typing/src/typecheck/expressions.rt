@@ -38,7 +38,8 @@ impl<C: ArgumentCheck> SingleEnvTypechecker<'_, '_, '_, '_, C> {
         errors: &mut Vec<ValidationError>,
     ) -> Result<TypecheckAnswer<'a>, AllocError>
         ensures { IfOk result (λ r.
-            infer (setting_at C.refusal self.now) (written e.now) (known_in prior.now) depth (findings errors.old.items)
+            infer (setting_at C.refusal self.now) (written e.now) (known_in prior.now) depth
+            (findings errors.old.items)
             ≡ (answer_of r, findings errors.new.items)) }
     {
         // one limit for all builds, because a stack would overflow at a depth that depends on the build
@@ -118,8 +119,10 @@ impl<C: ArgumentCheck> SingleEnvTypechecker<'_, '_, '_, '_, C> {
         errors: &mut Vec<ValidationError>,
     ) -> Result<Option<Part<'a>>, AllocError>
         ensures { IfOk result (λ p.
-            expect (setting_at C.refusal self.now).env (expected_types expected.entry) (place_of (written e.now))
-            (infer (setting_at C.refusal self.now) (written e.now) (known_in prior.now) depth (findings errors.old.items))
+            expect (setting_at C.refusal self.now).env (expected_types expected.entry)
+            (place_of (written e.now))
+            (infer (setting_at C.refusal self.now) (written e.now) (known_in prior.now) depth
+            (findings errors.old.items))
             ≡ (option_map part_of p, findings errors.new.items)) }
     {
         let answer = self.typecheck(prior, depth, e, errors)?;

@@ -38,8 +38,7 @@ impl TypeEnv<'_, '_, '_, '_> {
         let Some(other) = other else {
             return Ok(Vec::new(self.alloc));
         };
-        let errors = self.bound_errors(loc, context, one, other)?;
-        Ok(errors)
+        self.bound_errors(loc, context, one, other)
     }
 
     /// The error of two types that have no bound in the mode.

@@ -148,8 +148,7 @@ impl TypeEnv<'_, '_, '_, '_> {
         let Some(expected) = expected else {
             return Ok(answer.into_part(self.alloc));
         };
-        let part = self.expect(expected, loc, answer, errors)?;
-        Ok(part)
+        self.expect(expected, loc, answer, errors)
     }
 
     #[inline(never)]

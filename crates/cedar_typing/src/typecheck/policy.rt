@@ -1,10 +1,8 @@
 // The check of a policy in all of its environments.
 ghost use Rattle.std.specs.Prelude.{◌≡◌, ◌∷◌, List, IfOk, OnOk, OnErr, IsPermutation, map};
 ghost use Rattle.cedar_types.specs.Errors.{finding_of, warning_of};
-ghost use Rattle.cedar_types.specs.Environments.Linking.{checked_envs};
-ghost use Rattle.cedar_types.specs.Schemas.Contents.{schema_of};
 ghost use Rattle.cedar_types.specs.Templates.{template_of};
-ghost use Rattle.cedar_typing.specs.Views.Checks.{schema_by, mode_by, basis_of, verdict_of};
+ghost use Rattle.cedar_typing.specs.Views.Checks.{envs_for, basis_of, verdict_of};
 ghost use Rattle.cedar_typing.specs.Views.EnvironmentChecks.{ChecksIn};
 ghost use Rattle.cedar_typing.specs.PolicyCheck.{Verdict};
 ghost use Rattle.cedar_typing.specs.PolicyCheck.Outcome.{impossible, PolicyOutcome};
@@ -47,8 +45,7 @@ impl<'a, C: ArgumentCheck> Typechecker<'a, C> {
     ) -> Result<bool, AllocError>
         ensures exact { IfOk result (λ answer.
             PolicyOutcome (ChecksIn C.refusal self.now t.now)
-            (checked_envs (schema_of (schema_by self.now).now) (mode_by self.now)
-            (template_of t.now))
+            (envs_for self.now t.now)
             (template_of t.now) answer
             (map finding_of type_errors.old.keys) (map finding_of type_errors.new.keys)
             (map warning_of warnings.old.keys) (map warning_of warnings.new.keys)) }
@@ -74,8 +71,7 @@ impl<'a, C: ArgumentCheck> Typechecker<'a, C> {
 
     fn tally(&self, alloc: Global, t: &Template) -> Result<Tally, AllocError>
         ensures { IfOk result (TalliesEnvs (ChecksIn C.refusal self.now t.now)
-            (checked_envs (schema_of (schema_by self.now).now) (mode_by self.now)
-            (template_of t.now))) }
+            (envs_for self.now t.now)) }
     {
         let mut tally = Tally {
             errors: BTreeSet::new(alloc),

@@ -26,10 +26,8 @@ pub struct RequestEnvChecks<'b, C = Box<dyn ArgumentCheck>> {
 
 impl<'a, C: ArgumentCheck> Typechecker<'a, C> {
     ghost use Rattle.std.specs.Prelude.{◌≡◌, false, IfOk, IsPermutation};
-    ghost use Rattle.cedar_types.specs.Environments.Linking.{checked_envs};
-    ghost use Rattle.cedar_types.specs.Schemas.Contents.{schema_of};
     ghost use Rattle.cedar_types.specs.Templates.{template_of, condition_of};
-    ghost use Rattle.cedar_typing.specs.Views.Checks.{schema_by, mode_by};
+    ghost use Rattle.cedar_typing.specs.Views.Checks.{envs_for};
     ghost use Rattle.cedar_typing.specs.Views.EnvironmentChecks.{checks_left, checks_are_over, checker_of, template_in, condition_in};
 
     /// The checks of this template in all of its environments: those of the schema, each with the template's slots linked in
@@ -45,8 +43,7 @@ impl<'a, C: ArgumentCheck> Typechecker<'a, C> {
         ensures condition { IfOk result (λ c. condition_in c ≡ condition_of (template_of t.now)) }
         ensures begun { IfOk result (λ c. checks_are_over c ≡ false) }
         ensures left { IfOk result (λ c. IsPermutation (checks_left c)
-            (checked_envs (schema_of (schema_by self.now).now) (mode_by self.now)
-            (template_of t.now))) }
+            (envs_for self.now t.now)) }
     {
         let scope = t.scope_condition(alloc)?;
         let linked = self.schema.linked_request_envs(alloc, self.mode, t)?;
@@ -96,6 +93,7 @@ impl<'b, C: ArgumentCheck> Iterator for RequestEnvChecks<'b, C> {
     }
 }
 
+#[tactic(auto, unfolding(crate::specs::Views::EnvironmentChecks::checks_left, crate::specs::Views::EnvironmentChecks::checks_are_over, crate::specs::Views::EnvironmentChecks::checker_of, crate::specs::Views::EnvironmentChecks::template_in, crate::specs::Views::EnvironmentChecks::condition_in))]
 impl<'b, C: ArgumentCheck> RequestEnvChecks<'b, C> {
     ghost use Rattle.std.specs.Prelude.{◌≡◌, [], ◌∷◌, IfOk, MatchOption, OnOk};
     ghost use Rattle.cedar_types.specs.Environments.RequestEnvs.{env_of};
@@ -105,7 +103,6 @@ impl<'b, C: ArgumentCheck> RequestEnvChecks<'b, C> {
 
     /// The next environment, without its check, for a caller who may know the check without asking; `None` after the last.
     /// Where memory is refused, the answer is an `AllocError`, and no environment comes after it.
-    #[tactic(auto, unfolding(crate::specs::Views::EnvironmentChecks::checks_left, crate::specs::Views::EnvironmentChecks::checks_are_over, crate::specs::Views::EnvironmentChecks::checker_of, crate::specs::Views::EnvironmentChecks::template_in, crate::specs::Views::EnvironmentChecks::condition_in))]
     pub fn next_env(&mut self) -> Result<Option<RequestEnv<'b>>, AllocError>
         ensures next { IfOk result (λ o. MatchOption o
             (checks_left self.old ≡ [])
@@ -130,10 +127,10 @@ impl<'b, C: ArgumentCheck> RequestEnvChecks<'b, C> {
 
     /// The check of the template in an environment, which is that of `Typechecker::typecheck_by_single_request_env`. Where
     /// memory is refused, the answer is an `AllocError`.
-    #[tactic(auto, unfolding(crate::specs::Views::EnvironmentChecks::checker_of, crate::specs::Views::EnvironmentChecks::template_in, crate::specs::Views::EnvironmentChecks::condition_in))]
     pub fn check(&self, env: &RequestEnv<'_>) -> Result<PolicyCheck, AllocError>
         ensures { IfOk result (λ r.
-            PolicyChecks (setting_for C.refusal (checker_of self.now) (template_in self.now) env.now)
+            PolicyChecks (setting_for C.refusal (checker_of self.now) (template_in self.now)
+            env.now)
             (condition_in self.now) (verdict_of r)) }
     {
         let check = self

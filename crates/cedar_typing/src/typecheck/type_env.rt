@@ -1,7 +1,6 @@
 // The type environment: the setting of a judgment without the extension functions.
 ghost use Rattle.cedar_types.specs.Environments.RequestEnvs.{env_of};
-ghost use Rattle.cedar_types.specs.Schemas.Contents.{schema_of};
-ghost use Rattle.cedar_typing.specs.Setting.VariableTypes.{HasPrincipal, HasAction, HasResource, HasContext};
+ghost use Rattle.cedar_typing.specs.Setting.VariableTypes.{HasPrincipal, HasResource, HasContext};
 
 use crate::typecheck::variable_types::VariableTypes;
 use cedar_types::base::{Name, PolicyID, ValidationMode, ValidatorSchema};
@@ -17,12 +16,11 @@ pub(crate) struct TypeEnv<'s, 'r, 'e, 'p> {
     pub schema: &'s ValidatorSchema,
     pub mode: ValidationMode,
     pub request_env: &'r RequestEnv<'e>,
-    /// The types of the variables in this environment.
+    /// The types of `principal`, `resource` and `context` in this environment.
     pub variables: VariableTypes,
     pub overloaded_types: &'s BTreeSet<Name>,
     pub policy_id: &'p PolicyID,
     pub ghost principal: { HasPrincipal (env_of request_env.now) variables },
-    pub ghost action: { HasAction (schema_of schema.now) (env_of request_env.now) variables },
     pub ghost resource: { HasResource (env_of request_env.now) variables },
     pub ghost context: { HasContext (env_of request_env.now) variables },
 }

@@ -41,8 +41,10 @@ impl TypeEnv<'_, '_, '_, '_> {
         found: &Option<CedarType>,
     ) -> Result<Decision<'a>, AllocError>
         ensures decides { IfOk result (λ d. decision_of d
-            ≡ has_table (env_at self.now) (text_of attr.now) (attribute_of (written (expr_in base.old)) (text_of attr.now))
-            (known_in prior.now (attribute_of (written (expr_in base.old)) (text_of attr.now))) (option_map ty_of found.now)) }
+            ≡ has_table (env_at self.now) (text_of attr.now)
+            (attribute_of (written (expr_in base.old)) (text_of attr.now))
+            (known_in prior.now (attribute_of (written (expr_in base.old)) (text_of attr.now)))
+            (option_map ty_of found.now)) }
         ensures kept { expr_in base.new ≡ expr_in base.old }
     {
         // a base without a type has failed already, and the test is still a Boolean
@@ -71,7 +73,8 @@ impl TypeEnv<'_, '_, '_, '_> {
         attr: &RcStr,
     ) -> Result<Option<bool>, AllocError>
         ensures { IfOk result (λ o. o
-            ≡ option_map (λ t. t.1) (attribute_type (env_at self.now).schema (ty_of owner.now) (text_of attr.now))) }
+            ≡ option_map (λ t. t.1)
+            (attribute_type (env_at self.now).schema (ty_of owner.now) (text_of attr.now))) }
     {
         match CedarType::lookup_attribute_type(self.alloc, self.schema, owner, attr)? {
             Some(found) => {
@@ -107,7 +110,8 @@ impl TypeEnv<'_, '_, '_, '_> {
     ) -> Result<Decision<'a>, AllocError>
         ensures decides { IfOk result (λ d. decision_of d
             ≡ get_table (env_at self.now) loc (text_of attr.now)
-            (known_in prior.now (attribute_of (written (expr_in base.old)) (text_of attr.now))) (option_map ty_of found.now)) }
+            (known_in prior.now (attribute_of (written (expr_in base.old)) (text_of attr.now)))
+            (option_map ty_of found.now)) }
         ensures kept { expr_in base.new ≡ expr_in base.old }
     {
         // a base without a type has failed already, and does not tell the type of its attribute
@@ -120,8 +124,7 @@ impl TypeEnv<'_, '_, '_, '_> {
             return Ok(decision);
         }
         let is_known = prior.contains(&attribute_of(base, attr)?);
-        let decision = self.decide_access(loc, attr, owner, is_known)?;
-        Ok(decision)
+        self.decide_access(loc, attr, owner, is_known)
     }
 
     /// The decision on `base.attr` if the base's type requires the attribute, whatever is known; otherwise `None`.
@@ -157,10 +160,7 @@ impl TypeEnv<'_, '_, '_, '_> {
             (attribute_type (env_at self.now).schema (ty_of owner.now) (text_of attr.now))) }
     {
         match CedarType::lookup_attribute_type(self.alloc, self.schema, owner, attr)? {
-            None => {
-                let decision = self.decide_undeclared(loc, attr, owner)?;
-                Ok(decision)
-            }
+            None => { self.decide_undeclared(loc, attr, owner) }
             Some(found) => {
                 if found.is_required | is_known {
                     return Ok(Decision::Gives(found.attr_type, no_capabilities(self.alloc)));

@@ -73,7 +73,8 @@ impl<'a> Progress<'a> {
     ) -> Result<Progress<'a>, AllocError>
         ensures { (a : _) → is_some a ≡ is_declared → IfOk result (λ r.
             progress_of r
-            ≡ with_step (progress_of self.entry) (ty_of ty.now) (step_earns (ty_of ty.now) (cap_of there.entry) a)) }
+            ≡ with_step (progress_of self.entry) (ty_of ty.now)
+            (step_earns (ty_of ty.now) (cap_of there.entry) a)) }
     {
         let is_true = is_true_type(ty);
         let all_true = self.all_true & is_true;
@@ -149,8 +150,7 @@ impl TypeEnv<'_, '_, '_, '_> {
             // the accesses behind the first attribute have no text of their own, so their errors stand at the whole
             place = loc;
         }
-        let decision = self.last_step(prior, place, &at, &ty, progress)?;
-        Ok(decision)
+        self.last_step(prior, place, &at, &ty, progress)
     }
 
     /// The decision on the last step, with errors at `place`.
@@ -215,7 +215,8 @@ impl TypeEnv<'_, '_, '_, '_> {
             by_link r next
             ≡ after_access
             (get_decides (env_at self.now) place (text_of attr.now) is_known
-            (ty_of ty.now) (attribute_type (env_at self.now).schema (ty_of ty.now) (text_of attr.now)))
+            (ty_of ty.now) (attribute_type (env_at self.now).schema (ty_of ty.now)
+            (text_of attr.now)))
             (λ t. next t (progress_of progress.entry))) }
     {
         match self.decide_access(place, attr, ty, is_known)? {
@@ -244,7 +245,8 @@ impl TypeEnv<'_, '_, '_, '_> {
             (attribute_of (step_written at.now) (step_attr at.now)))
             (ty_of ty.now) (step_attr at.now) (progress_of progress.entry) next) }
         ensures knows { IfOk result (λ r.
-            KnowsAfter (known_in prior.now) (attribute_of (step_written at.now) (step_attr at.now)) r) }
+            KnowsAfter (known_in prior.now) (attribute_of (step_written at.now) (step_attr at.now))
+            r) }
     {
         if !is_object_type(ty) {
             let error = self.unexpected(Expected::Object, place, ty)?;
@@ -275,7 +277,8 @@ impl TypeEnv<'_, '_, '_, '_> {
         is_known: bool,
     ) -> CedarType
         ensures { (a : _) → option_map (λ t. t.1) a ≡ required
-            → ty_of result ≡ step_type (env_at self.now) (ty_of owner.now) (text_of attr.now) is_known a }
+            → ty_of result ≡ step_type (env_at self.now) (ty_of owner.now) (text_of attr.now)
+            is_known a }
     {
         match required {
             Some(is_required) => declared_type(owner, is_required, is_known),

@@ -81,8 +81,7 @@ impl<C: ArgumentCheck> SingleEnvTypechecker<'_, '_, '_, '_, C> {
         let one = one.into_part(self.env.alloc);
         let other = self.typecheck(prior, depth + 1, branches.else_expr, errors)?;
         let other = other.into_part(self.env.alloc);
-        let answer = self.env.open_test_answer(loc, test, one, other, errors)?;
-        Ok(answer)
+        self.env.open_test_answer(loc, test, one, other, errors)
     }
 }
 
@@ -108,8 +107,7 @@ impl TypeEnv<'_, '_, '_, '_> {
         let Some(other) = other else {
             return Ok(TypecheckAnswer::RecursionLimit);
         };
-        let answer = self.open_test_parts(loc, test, one, other, errors)?;
-        Ok(answer)
+        self.open_test_parts(loc, test, one, other, errors)
     }
 
     #[tactic(auto, using(crate::proofs::Views::Typed::annotation_is))]
@@ -162,8 +160,7 @@ impl TypeEnv<'_, '_, '_, '_> {
         let Some(other) = other else {
             return Ok(None);
         };
-        let ty = self.bound_type(loc, one, other, errors)?;
-        Ok(ty)
+        self.bound_type(loc, one, other, errors)
     }
 
     fn bound_type(
@@ -240,15 +237,15 @@ fn constant_test_node(
 ) -> Result<Box<Expr<Option<CedarType>>>, AllocError>
     ensures { IfOk result (λ e.
         typed_tree e.value
-        ≡ if_then_else (typed_as (annotation (typed_tree branch.value)) (at loc)) (typed_tree test.value)
+        ≡ if_then_else (typed_as (annotation (typed_tree branch.value)) (at loc))
+        (typed_tree test.value)
         (typed_tree branch.value) (typed_tree branch.value)) }
 {
     let ty = same_type(&branch.annotation)?;
     // the branch that was not typed has no typed copy, and a walk over the tree must meet no other node
     let then_expr = Rc::new(alloc, Box::into_inner(branch))?;
     let else_expr = then_expr.clone()?;
-    let typed = if_node(alloc, loc, ty, test, then_expr, else_expr)?;
-    Ok(typed)
+    if_node(alloc, loc, ty, test, then_expr, else_expr)
 }
 
 /// `if` with these typed parts.

@@ -3,7 +3,7 @@ ghost use Rattle.std.specs.Prelude.{◌≡◌, IfOk, option_map};
 ghost use Rattle.cedar_types.specs.Types.{ty_of};
 ghost use Rattle.cedar_types.specs.Expressions.View.{lit_of, written};
 ghost use Rattle.cedar_types.specs.Expressions.TreeEq.{lit_eq};
-ghost use Rattle.cedar_typing.specs.Rules.Equality.{action_literal, literal_of, compared_literals, are_apart, equality_type, equality_decides, member_type};
+ghost use Rattle.cedar_typing.specs.Rules.Equality.{action_literal, literal_of, compared_literals, are_apart, equality_type, compared, member_type};
 ghost use Rattle.cedar_typing.specs.Views.{env_at, decision_of};
 
 use crate::typecheck::rules::eager::{Decision, gives, gives_unless};
@@ -25,11 +25,7 @@ impl TypeEnv<'_, '_, '_, '_> {
         right_type: Option<&CedarType>,
     ) -> Result<Decision<'a>, AllocError>
         ensures { IfOk result (λ d. decision_of d
-            ≡ equality_decides (env_at self.now) loc
-            (equality_type (literal_of (env_at self.now).request_env (written left.now))
-            (literal_of (env_at self.now).request_env (written right.now))
-            (option_map (λ t. ty_of t.now) left_type.entry)
-            (option_map (λ t. ty_of t.now) right_type.entry))
+            ≡ compared (env_at self.now) loc (written left.now) (written right.now)
             (option_map (λ t. ty_of t.now) left_type.entry)
             (option_map (λ t. ty_of t.now) right_type.entry)) }
     {

@@ -62,13 +62,13 @@ impl TypeEnv<'_, '_, '_, '_> {
     }
 
     /// The type of a variable, if it has one.
-    #[tactic(auto, using(crate::proofs::TypeTests::VariableTypes::is_kept, crate::proofs::TypeTests::VariableTypes::is_kept_if_any))]
+    #[tactic(auto, using(crate::proofs::TypeTests::VariableTypes::some_is_kept))]
     fn type_of_variable(&self, variable: Var) -> Result<Option<CedarType>, AllocError>
         ensures { IfOk result (λ o. option_map ty_of o ≡ variable_type (env_at self.now) variable) }
     {
         match variable {
             Var::Principal => Ok(Some(self.variables.principal.clone()?)),
-            Var::Action => self.variables.action.clone(),
+            Var::Action => self.request_env.action_type(self.alloc, self.schema),
             Var::Resource => Ok(Some(self.variables.resource.clone()?)),
             Var::Context => Ok(Some(self.variables.context.clone()?)),
         }
@@ -92,8 +92,7 @@ impl TypeEnv<'_, '_, '_, '_> {
         };
         // a slot that is linked to no type may be bound to any entity
         let linked = type_of_entities(self.alloc, self.schema, linked)?;
-        let answer = self.leaf_answer(loc, Some(linked), ExprKind::Slot(slot))?;
-        Ok(answer)
+        self.leaf_answer(loc, Some(linked), ExprKind::Slot(slot))
     }
 
     /// The answer for an expression without parts, of this type. Without a type it fails, and adds

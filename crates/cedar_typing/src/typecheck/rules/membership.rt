@@ -139,7 +139,8 @@ impl TypeEnv<'_, '_, '_, '_> {
     /// Whether an action is one of these, or a descendant of one.
     fn is_action_in(&self, action: &EntityUID, ancestors: &[EntityUID]) -> bool
         ensures { result
-            ≡ is_action_in (env_at self.now).schema.actions (uid_of action.now) (map uid_of ancestors.now) }
+            ≡ is_action_in (env_at self.now).schema.actions (uid_of action.now)
+            (map uid_of ancestors.now) }
     {
         ancestors.iter().any(|ancestor| is_same_entity(action, ancestor)
             || self.is_below(action, ancestor))
@@ -147,7 +148,8 @@ impl TypeEnv<'_, '_, '_, '_> {
 
     fn is_below(&self, action: &EntityUID, ancestor: &EntityUID) -> bool
         ensures { result
-            ≡ uid_is_among (descendants_of_action (env_at self.now).schema.actions (uid_of ancestor.now))
+            ≡ uid_is_among (descendants_of_action (env_at self.now).schema.actions
+            (uid_of ancestor.now))
             (uid_of action.now) }
     {
         match self.schema.get_action_id(ancestor) {
@@ -163,7 +165,8 @@ impl TypeEnv<'_, '_, '_, '_> {
         other: &Option<CedarType>,
     ) -> Decision<'a>
         ensures { decision_of result
-            ≡ entity_decides (env_at self.now) (option_map ty_of found.now) (option_map ty_of other.now) }
+            ≡ entity_decides (env_at self.now) (option_map ty_of found.now)
+            (option_map ty_of other.now) }
     {
         // a store that conforms has no membership that the schema does not allow
         if self.may_be_among(types_of_entity(found), types_of_ancestors(other)) {
@@ -176,7 +179,8 @@ impl TypeEnv<'_, '_, '_, '_> {
     fn may_be_among(&self, types: Option<&EntityLUB>, ancestors: Option<&EntityLUB>) -> bool
         ensures { result
             ≡ may_be_among (env_at self.now).schema
-            (option_map (λ s. lub_of s.now) types.entry) (option_map (λ s. lub_of s.now) ancestors.entry) }
+            (option_map (λ s. lub_of s.now) types.entry)
+            (option_map (λ s. lub_of s.now) ancestors.entry) }
     {
         // of what may be any entity nothing can be ruled out
         let Some(types) = types else {

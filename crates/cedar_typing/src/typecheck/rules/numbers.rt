@@ -37,8 +37,7 @@ impl TypeEnv<'_, '_, '_, '_> {
         let Some(right) = right else {
             return Ok(Decision::Refuses(Some(any_bool()), Vec::new(self.alloc)));
         };
-        let decision = self.compare(left_loc, right_loc, left, right)?;
-        Ok(decision)
+        self.compare(left_loc, right_loc, left, right)
     }
 
     fn compare<'a>(

@@ -73,7 +73,8 @@ impl OneOperand<'_> {
         ensures { (env : _) → (prior : _) → (e : _)
             → IfOk result (λ r. typed_tree r.value
             ≡ (form_of_one env (mark_of_one loc self.entry) prior e self.entry).node
-            (typed_as (option_map ty_of ty) (form_of_one env (mark_of_one loc self.entry) prior e self.entry).at)
+            (typed_as (option_map ty_of ty)
+            (form_of_one env (mark_of_one loc self.entry) prior e self.entry).at)
             (typed_tree operand.value ∷ [])) }
     {
         let kind = self.kind(alloc, operand)?;
@@ -90,7 +91,8 @@ impl OneOperand<'_> {
         ensures { (env : _) → (prior : _) → (e : _) → (loc : _) → (ty : _)
             → IfOk result (λ k. typed_tree (record { annotation = ty; loc = loc; kind = k })
             ≡ (form_of_one env (mark_of_one loc self.entry) prior e self.entry).node
-            (typed_as (option_map ty_of ty) (form_of_one env (mark_of_one loc self.entry) prior e self.entry).at)
+            (typed_as (option_map ty_of ty)
+            (form_of_one env (mark_of_one loc self.entry) prior e self.entry).at)
             (typed_tree operand.value ∷ [])) }
     {
         match self {
@@ -120,7 +122,8 @@ impl<C: ArgumentCheck> SingleEnvTypechecker<'_, '_, '_, '_, C> {
     ) -> Result<TypecheckAnswer<'a>, AllocError>
         requires { depth ≤ max_nesting }
         ensures { IfOk result (λ r.
-            infer_one (setting_at C.refusal self.now) (mark_of_one loc form.entry) (known_in prior.now) (written operand.now) depth form.entry
+            infer_one (setting_at C.refusal self.now) (mark_of_one loc form.entry)
+            (known_in prior.now) (written operand.now) depth form.entry
             (findings errors.old.items)
             ≡ (answer_of r, findings errors.new.items)) }
     {
@@ -145,8 +148,10 @@ impl<C: ArgumentCheck> SingleEnvTypechecker<'_, '_, '_, '_, C> {
         errors: &mut Vec<ValidationError>,
     ) -> Result<(Option<Part<'a>>, DigestedBase<'a>), AllocError>
         ensures typed { IfOk result (λ r.
-            expect (setting_at C.refusal self.now).env (expected_types expected.entry) (place_of (written e.now))
-            (infer (setting_at C.refusal self.now) (written e.now) (known_in prior.now) depth (findings errors.old.items))
+            expect (setting_at C.refusal self.now).env (expected_types expected.entry)
+            (place_of (written e.now))
+            (infer (setting_at C.refusal self.now) (written e.now) (known_in prior.now) depth
+            (findings errors.old.items))
             ≡ (option_map part_of r.0, findings errors.new.items)) }
         ensures base { IfOk result (λ r. expr_in r.1 ≡ e.now) }
     {
@@ -187,7 +192,8 @@ impl TypeEnv<'_, '_, '_, '_> {
         errors: &mut Vec<ValidationError>,
     ) -> Result<TypecheckAnswer<'a>, AllocError>
         ensures typed { IfOk result (λ r.
-            infer_of_one (form_of_one (env_at self.now) (mark_of_one loc form.entry) (known_in prior.now) (written (expr_in base.old)) form.entry)
+            infer_of_one (form_of_one (env_at self.now) (mark_of_one loc form.entry)
+            (known_in prior.now) (written (expr_in base.old)) form.entry)
             (option_map part_of part.entry) (findings errors.old.items)
             ≡ (answer_of r, findings errors.new.items)) }
         ensures kept { expr_in base.new ≡ expr_in base.old }
@@ -218,7 +224,8 @@ impl TypeEnv<'_, '_, '_, '_> {
         found: &Option<CedarType>,
     ) -> Result<Decision<'a>, AllocError>
         ensures decides { IfOk result (λ d. decision_of d
-            ≡ (form_of_one (env_at self.now) (mark_of_one loc form.entry) (known_in prior.now) (written (expr_in base.old)) form.entry).decides
+            ≡ (form_of_one (env_at self.now) (mark_of_one loc form.entry) (known_in prior.now)
+            (written (expr_in base.old)) form.entry).decides
             (option_map ty_of found.now ∷ [])) }
         ensures kept { expr_in base.new ≡ expr_in base.old }
     {

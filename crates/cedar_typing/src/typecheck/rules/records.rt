@@ -76,7 +76,8 @@ impl<C: ArgumentCheck> SingleEnvTypechecker<'_, '_, '_, '_, C> {
     ) -> Result<FieldValues, AllocError>
         requires { depth ≤ max_nesting }
         ensures typed { IfOk result (λ r.
-            infer_fields (setting_at C.refusal self.now) (fields_written fields.now.entries) (known_in prior.now)
+            infer_fields (setting_at C.refusal self.now) (fields_written fields.now.entries)
+            (known_in prior.now)
             (depth + 1) (findings errors.old.items)
             ≡ (field_operands r, findings errors.new.items)) }
         ensures keys { IfOk result (λ r. r.is_cut ≡ false

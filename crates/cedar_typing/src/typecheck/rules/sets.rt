@@ -55,8 +55,7 @@ impl<C: ArgumentCheck> SingleEnvTypechecker<'_, '_, '_, '_, C> {
     {
         // the original types all elements before it looks at any answer
         let typed = self.type_operands(prior, depth, true, &[], elements, errors)?;
-        let answer = self.env.set_answer(loc, typed, errors)?;
-        Ok(answer)
+        self.env.set_answer(loc, typed, errors)
     }
 }
 
@@ -78,8 +77,7 @@ impl TypeEnv<'_, '_, '_, '_> {
             add_errors(errors, self.errors_before_cut(loc, &elements.typed)?)?;
             return Ok(TypecheckAnswer::RecursionLimit);
         }
-        let answer = self.typed_set(loc, elements.succeeded, elements.typed, errors)?;
-        Ok(answer)
+        self.typed_set(loc, elements.succeeded, elements.typed, errors)
     }
 
     /// The answer for a set of which no element is too deep.
@@ -125,8 +123,7 @@ impl TypeEnv<'_, '_, '_, '_> {
             return Ok(Decision::Refuses(None, errors));
         }
         let types = types_of(self.alloc, elements)?;
-        let decision = self.decide_by_types(loc, types)?;
-        Ok(decision)
+        self.decide_by_types(loc, types)
     }
 
     /// The errors of a set beside an element that is too deep: the elements before it must have a
@@ -137,7 +134,8 @@ impl TypeEnv<'_, '_, '_, '_> {
         elements: &[Expr<Option<CedarType>>],
     ) -> Result<Vec<ValidationError>, AllocError>
         ensures { IfOk result (λ es. findings es.items
-            ≡ errors_of (set_of_types (env_at self.now) loc (all_types (types_found (map typed_tree elements.now))))) }
+            ≡ errors_of (set_of_types (env_at self.now) loc
+            (all_types (types_found (map typed_tree elements.now))))) }
     {
         let types = types_of(self.alloc, elements)?;
         match self.decide_by_types(loc, types)? {

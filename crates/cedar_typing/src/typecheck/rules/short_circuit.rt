@@ -198,8 +198,7 @@ impl<C: ArgumentCheck> SingleEnvTypechecker<'_, '_, '_, '_, C> {
         let Some(right) = part else {
             return Ok(TypecheckAnswer::RecursionLimit);
         };
-        let answer = self.env.sides_answer(loc, connective, left, right)?;
-        Ok(answer)
+        self.env.sides_answer(loc, connective, left, right)
     }
 }
 
@@ -234,7 +233,8 @@ impl TypeEnv<'_, '_, '_, '_> {
         right: Part<'a>,
     ) -> Result<TypecheckAnswer<'a>, AllocError>
         ensures { IfOk result (λ r. answer_of r
-            ≡ infer_sides (connective_of connective) (at loc) (part_of left.entry) (part_of right.entry)
+            ≡ infer_sides (connective_of connective) (at loc) (part_of left.entry)
+            (part_of right.entry)
             (annotation (typed_tree left.entry.typed.value))
             (annotation (typed_tree right.entry.typed.value))) }
     {

@@ -60,8 +60,7 @@ impl TypeEnv<'_, '_, '_, '_> {
         }
         let there = tag_of(operands);
         let is_known = prior.contains(&there);
-        let decision = self.has_tag_of(there, is_known, ty)?;
-        Ok(decision)
+        self.has_tag_of(there, is_known, ty)
     }
 
     /// The type of `left.getTag(right)`, by that of the left, or an error at `loc`.
@@ -86,8 +85,7 @@ impl TypeEnv<'_, '_, '_, '_> {
             return Ok(decision);
         }
         let is_known = prior.contains(&tag_of(operands));
-        let decision = self.get_tag_of(loc, is_known, ty)?;
-        Ok(decision)
+        self.get_tag_of(loc, is_known, ty)
     }
 
     /// `hasTag` of a type other than Never, which earns that the tag is there.
@@ -127,8 +125,7 @@ impl TypeEnv<'_, '_, '_, '_> {
             return refuses_with(self.alloc, None, error);
         }
         let tags = self.tag_types(ty)?;
-        let decision = self.decide_known_tag(loc, ty, tags)?;
-        Ok(decision)
+        self.decide_known_tag(loc, ty, tags)
     }
 
     /// Of a tag that is known to be there: the bound of the types that it may have.

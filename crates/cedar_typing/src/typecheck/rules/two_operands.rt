@@ -9,8 +9,8 @@ ghost use Rattle.cedar_typing.specs.Infer.Eager.{infer_form, type_given};
 ghost use Rattle.cedar_typing.specs.Judgments.{max_nesting};
 ghost use Rattle.cedar_typing.specs.Rules.Binary.{binary_form};
 ghost use Rattle.cedar_typing.specs.TypedExpr.{typed_as, typed_tree};
-ghost use Rattle.cedar_typing.specs.Views.Settings.{setting_at, infer_two};
-ghost use Rattle.cedar_typing.specs.Views.{env_at, expected_types, answer_of, part_of, findings, at, form_of_two, two_parts};
+ghost use Rattle.cedar_typing.specs.Views.Settings.{setting_at, infer_two, form_with};
+ghost use Rattle.cedar_typing.specs.Views.{expected_types, answer_of, part_of, findings, at, form_of_two, two_parts};
 ghost use Rattle.cedar_typing.specs.Capabilities.Priors.{known_in};
 
 use crate::typecheck::answer::{Part, TypecheckAnswer};
@@ -209,9 +209,7 @@ impl TypeEnv<'_, '_, '_, '_> {
         errors: &mut Vec<ValidationError>,
     ) -> Result<TypecheckAnswer<'a>, AllocError>
         ensures { IfOk result (λ r.
-            infer_form
-            (form_of_two (env_at self.now) (at loc) (known_in prior.now)
-            (written operands.entry.left.now) (written operands.entry.right.now) form)
+            infer_form (form_with self.now loc prior.now operands.entry form)
             (two_parts (option_map part_of parts.entry.0) (option_map part_of parts.entry.1))
             (findings errors.old.items)
             ≡ (answer_of r, findings errors.new.items)) }
@@ -223,8 +221,7 @@ impl TypeEnv<'_, '_, '_, '_> {
         let Some(other) = other else {
             return Ok(TypecheckAnswer::RecursionLimit);
         };
-        let answer = self.two_parts_answer(prior, loc, form, operands, (one, other), errors)?;
-        Ok(answer)
+        self.two_parts_answer(prior, loc, form, operands, (one, other), errors)
     }
 
     /// The answer for a form with two typed operands, at `loc`.
@@ -239,9 +236,7 @@ impl TypeEnv<'_, '_, '_, '_> {
         errors: &mut Vec<ValidationError>,
     ) -> Result<TypecheckAnswer<'a>, AllocError>
         ensures { IfOk result (λ r.
-            infer_form
-            (form_of_two (env_at self.now) (at loc) (known_in prior.now)
-            (written operands.entry.left.now) (written operands.entry.right.now) form)
+            infer_form (form_with self.now loc prior.now operands.entry form)
             (two_parts (Some (part_of parts.entry.0)) (Some (part_of parts.entry.1)))
             (findings errors.old.items)
             ≡ (answer_of r, findings errors.new.items)) }
