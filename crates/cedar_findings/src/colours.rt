@@ -12,8 +12,9 @@ pub enum Colours {
 }
 
 impl Colours {
-    /// Those of standard output, if it is a terminal, by the variable `NO_COLOR`: nothing is painted where the variable is there and
-    /// is not empty. One that is no text in UTF-8 is not empty; where memory is refused for it, nothing is painted.
+    /// The colours of standard output, if it is a terminal, by the variable `NO_COLOR`: nothing is
+    /// painted if the variable is set and is not empty. A variable that is no text in UTF-8 is not
+    /// empty; if memory is refused for it, nothing is painted.
     pub fn of_output(is_terminal: bool, no_color: Result<String, VarError>) -> Colours {
         let is_refused = match no_color {
             Ok(text) => !text.is_empty(),
@@ -28,7 +29,7 @@ impl Colours {
     }
 }
 
-/// What ends a colour.
+/// The escape that ends a colour.
 const END: &str = "\x1b[0m";
 
 /// The colour of a kind of findings, if it has one.
@@ -40,8 +41,8 @@ fn colour_of(kind: &str) -> Option<&'static str> {
     }
 }
 
-/// Lines about the file of this name, the kind of each in its colour. A line that does not begin with a place of the file stays
-/// as it is, for example a line of the file's text.
+/// Lines about the file of this name, the kind of each in its colour. A line that does not begin
+/// with a place of the file stays as it is, for example a line of the file's text.
 pub fn painted(alloc: Global, name: &str, lines: &str) -> Result<String, AllocError> {
     let name = Shown(name);
     let file = format!(in alloc; "{name}:")?;
@@ -73,7 +74,8 @@ struct Kind<'a> {
     text: &'a str,
 }
 
-/// The kind of a line that begins with a place of this file: the text behind the place, up to a colon.
+/// The kind of a line that begins with a place of this file: the text behind the place, up to a
+/// colon.
 fn kind_of<'a>(file: &str, line: &'a str) -> Option<Kind<'a>> {
     let rest = line.strip_prefix(file)?;
     let rest = rest.trim_start_matches(|c: char| c.is_ascii_digit() || c == ':');

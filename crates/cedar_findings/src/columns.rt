@@ -22,7 +22,7 @@ impl Columns {
         }
     }
 
-    /// How many units a part of a line in UTF-8 has.
+    /// The number of units that a part of a line in UTF-8 has.
     pub(crate) fn of_bytes(self, bytes: &[u8]) -> usize {
         match self {
             Columns::Characters => characters(bytes),
@@ -31,7 +31,7 @@ impl Columns {
         }
     }
 
-    /// How many units a character has.
+    /// The number of units that a character has.
     pub(crate) fn of_char(self, c: char) -> usize {
         match self {
             Columns::Characters => 1,
@@ -41,7 +41,7 @@ impl Columns {
     }
 }
 
-/// How many characters these bytes have.
+/// The number of characters that these bytes have.
 fn characters(bytes: &[u8]) -> usize {
     bytes
         .iter()
@@ -49,7 +49,8 @@ fn characters(bytes: &[u8]) -> usize {
         .count()
 }
 
-/// How many characters of these bytes have two units in UTF-16: those of four bytes in UTF-8.
+/// The number of characters of these bytes that have two units in UTF-16: they have four bytes in
+/// UTF-8.
 fn pairs(bytes: &[u8]) -> usize {
     bytes.iter().filter(|byte| **byte >= 0xf0).count()
 }

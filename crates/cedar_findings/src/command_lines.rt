@@ -7,7 +7,8 @@ use crate::shells::Shell;
 use crate::statuses::Statuses;
 use std::alloc::{AllocError, Global};
 
-/// The request that these words make, or their misuse. If memory is refused, the answer is an `AllocError`.
+/// The request that these words make, or their misuse. If memory is refused, the answer is an
+/// `AllocError`.
 pub fn read_arguments(
     alloc: Global,
     words: &[String],
@@ -34,7 +35,8 @@ enum Next {
     File,
 }
 
-/// The arguments so far. A file without an option stands among the files of policies until all words are read.
+/// The arguments so far. A file without an option stands among the files of policies until all
+/// words are read.
 #[derive(Drop)]
 struct Reading {
     alloc: Global,
@@ -125,7 +127,7 @@ impl Reading {
             Flag::UniqueIds => arguments.id_scope = IdScope::Call,
             Flag::CedarStatus => arguments.statuses = Statuses::Cedar,
             Flag::CheckParse => arguments.task = Task::Parsing,
-            // these options were answered before
+            // options that were answered before
             Flag::Page | Flag::Help | Flag::Version => {}
         }
     }

@@ -1,4 +1,4 @@
-// Numbers in decimal digits, which cost a tenth of what a format takes for them.
+// Numbers in decimal digits, at a tenth of the cost of a format.
 use itoa::Buffer;
 use std::alloc::AllocError;
 

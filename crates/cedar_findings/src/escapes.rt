@@ -1,9 +1,10 @@
-//! Texts by other writers, shown so that none of their characters controls the terminal or the tool that shows them.
+//! Texts by other writers, shown so that none of their characters controls the terminal or the tool
+//! that shows them.
 use std::alloc::AllocError;
 use std::fmt;
 
-/// A text on one line. A character that [`is_hidden`] is escaped, for example the end of a line as `\n`, and a `#` behind
-/// another; quotes and backslashes stay.
+/// A text on one line. A character that [`is_hidden`] is escaped, for example the end of a line as
+/// `\n`, and a `#` behind another; quotes and backslashes stay.
 #[derive(Drop)]
 pub struct Shown<'a>(pub &'a str);
 
@@ -21,8 +22,8 @@ impl fmt::Display for Shown<'_> {
     }
 }
 
-/// Whether a text is of characters of ASCII alone that take one place each, whatever stands before them. Nearly all texts are, so
-/// eight bytes are looked at together.
+/// Whether a text is of characters of ASCII alone that take one place each, whatever stands before
+/// them. Nearly all texts are, so eight bytes are looked at together.
 pub(crate) fn is_plain(text: &str) -> bool {
     let (words, rest) = text.as_bytes().as_chunks::<8>();
     words
@@ -31,8 +32,9 @@ pub(crate) fn is_plain(text: &str) -> bool {
         && rest.iter().all(|byte| is_printable(*byte))
 }
 
-/// Whether each of eight bytes [`is_printable`]. The first one that is not sets its highest bit: by itself where it is none of ASCII,
-/// in the first difference below a blank, in the sum behind a tilde, and in the second difference where it is a `#`.
+/// Whether each of eight bytes [`is_printable`]. The first byte that is not sets its highest bit:
+/// by itself if it is none of ASCII, in the first difference if it is below a blank, in the sum if
+/// it is behind a tilde, and in the second difference if it is a `#`.
 fn are_printable(bytes: u64) -> bool {
     let from_blank = bytes.wrapping_sub(0x2020_2020_2020_2020);
     let behind_tilde = bytes.wrapping_add(0x0101_0101_0101_0101);
@@ -67,7 +69,7 @@ fn write_shown<W: fmt::Write>(f: &mut fmt::Formatter<W>, before: char, c: char) 
     }
 }
 
-/// How many places a character takes in what [`Shown`] shows behind another.
+/// The number of places that a character takes behind another one, as [`Shown`] shows it.
 pub(crate) fn shown_width(before: char, c: char) -> usize {
     if begins_command(before, c) {
         return ESCAPED_MARK.len();
@@ -78,14 +80,14 @@ pub(crate) fn shown_width(before: char, c: char) -> usize {
 /// The escape of a `#` behind another.
 const ESCAPED_MARK: &str = "\\u{23}";
 
-/// Whether a character ends the mark `##`, because lines of a pipeline give commands with it: `##[` and `##vso[` do, anywhere
-/// in a line.
+/// Whether a character ends the mark `##`, because lines of a pipeline give commands with it: `##[`
+/// and `##vso[` do, anywhere in a line.
 fn begins_command(before: char, c: char) -> bool {
     before == '#' && c == '#'
 }
 
-/// An id between backquotes: double quotes, backquotes and backslashes are escaped too, so that none of them seems to end the
-/// id.
+/// An id between backquotes: double quotes, backquotes and backslashes are escaped too, so that
+/// none of them seems to end the id.
 #[derive(Drop)]
 pub struct ShownId<'a>(pub &'a str);
 
@@ -131,7 +133,8 @@ fn write_escaped<W: fmt::Write>(f: &mut fmt::Formatter<W>, c: char) -> fmt::Resu
     Ok(())
 }
 
-/// Whether a character is a control character, a mark of direction or the end of a line, or has no width, or shows nothing.
+/// Whether a character is a control character, a mark of direction or the end of a line, or has no
+/// width, or shows nothing.
 pub fn is_hidden(c: char) -> bool {
     if c.is_ascii() {
         return c.is_ascii_control();
@@ -148,7 +151,8 @@ pub fn display_width(c: char) -> usize {
     }
 }
 
-/// Whether a letter or a symbol shows nothing: the fillers of Hangul, the empty Braille pattern, and the empty head of a note.
+/// Whether a letter or a symbol shows nothing: the fillers of Hangul, the empty Braille pattern,
+/// and the empty head of a note.
 fn is_filler(c: char) -> bool {
     matches!(
         c,

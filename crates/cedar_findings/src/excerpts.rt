@@ -5,17 +5,18 @@ use crate::escapes::{is_plain, push_shown, shown_width};
 use cedar_types::base::Loc;
 use std::alloc::AllocError;
 
-/// The number of characters of a line that are shown before a place, in it, and behind it.
-const MAX_SHOWN: usize = 200;
+/// The most characters of a line that are shown before a place, in it, and behind it: a text in one
+/// line can be of any length.
+const MAX_CHARACTERS_SHOWN: usize = 200;
 
-/// How many marks are added at once.
+/// The number of marks that are added at once.
 const RUN: usize = 64;
 
 const BLANKS: &str = "                                                                ";
 
 const CARETS: &str = "^^^^^^^^^^^^^^^^^^^^^^^^^^^^^^^^^^^^^^^^^^^^^^^^^^^^^^^^^^^^^^^^";
 
-/// The line in which a place begins, and its number. Of a long line what is near the place.
+/// The line in which a place begins, and its number; of a long line, only the part near the place.
 #[derive(Drop)]
 pub struct Excerpt<'a> {
     number: usize,
@@ -45,8 +46,9 @@ impl<'a> Excerpt<'a> {
         }
     }
 
-    /// Adds two lines: the text behind a gutter with its number, and carets below the place, one at least. The gutter keeps a line
-    /// of a text from being the beginning of a line of what is written: a code host takes some of those for commands.
+    /// Adds two lines: the text behind a gutter with its number, and carets below the place, one at
+    /// least. Because of the gutter, no line of the output begins with a line of a text: a code
+    /// host takes some such lines for commands.
     pub fn push_to(&self, out: &mut String) -> Result<(), AllocError> {
         out.push_str("  ")?;
         let start = out.len();
@@ -67,7 +69,8 @@ impl<'a> Excerpt<'a> {
     }
 }
 
-/// What stands before the first end of a line.
+/// The part of a text before its first end of a line, of at most [`MAX_CHARACTERS_SHOWN`]
+/// characters.
 fn beginning_of_line(text: &str) -> &str {
     let mut size = 0usize;
     let mut characters = 0usize;
@@ -75,7 +78,7 @@ fn beginning_of_line(text: &str) -> &str {
         if is_first_of_character(byte) {
             characters = characters.saturating_add(1);
         }
-        if byte == b'\n' || byte == b'\r' || characters > MAX_SHOWN {
+        if byte == b'\n' || byte == b'\r' || characters > MAX_CHARACTERS_SHOWN {
             break;
         }
         size = size.saturating_add(1);
@@ -88,7 +91,7 @@ fn end_of_line(text: &str) -> &str {
     let mut size = 0usize;
     let mut characters = 0usize;
     for byte in text.bytes().rev() {
-        if byte == b'\n' || characters == MAX_SHOWN {
+        if byte == b'\n' || characters == MAX_CHARACTERS_SHOWN {
             break;
         }
         size = size.saturating_add(1);
@@ -115,7 +118,8 @@ fn push_with_tabs(out: &mut String, text: &str) -> Result<(), AllocError> {
     Ok(())
 }
 
-/// Adds marks of this run that fill the width of a text behind a character, with the tabs of the text.
+/// Adds marks of this run that fill the width of a text behind a character, with the tabs of the
+/// text.
 fn push_below(
     out: &mut String,
     run: &'static str,
@@ -138,7 +142,7 @@ fn push_below(
     Ok(())
 }
 
-/// How many places a text takes behind a character.
+/// The number of places that a text takes behind a character.
 fn width(before: char, text: &str) -> usize {
     let mut before = before;
     let mut width = 0usize;
@@ -149,7 +153,7 @@ fn width(before: char, text: &str) -> usize {
     width
 }
 
-/// Adds so many marks of a run.
+/// Adds `count` marks of a run.
 fn push_run(out: &mut String, run: &'static str, count: usize) -> Result<(), AllocError> {
     let mut left = count;
     for _ in 0..=count / RUN {

@@ -53,7 +53,7 @@ fn hint_in_policy(trouble: Trouble, read: &str) -> &'static str {
     }
 }
 
-/// The hint for a text that is read where another part is expected.
+/// The hint for a text at a place that expects another part.
 fn hint_by_place(trouble: Trouble, read: &str) -> &'static str {
     let is_text = read.starts_with('"');
     match (trouble, read) {
@@ -91,7 +91,8 @@ fn is_in_key(read: &str) -> bool {
     read.starts_with('-') || matches!(read, "." | "/" | "+" | "*" | "$" | "#" | "@" | "%")
 }
 
-/// Adds the way to write a number with a fraction, if its places are read at this byte as the name of an attribute.
+/// Adds the way to write a number with a fraction, if its places are read at this byte as the name
+/// of an attribute.
 pub(crate) fn push_fraction(
     message: &mut String,
     text: &str,

@@ -8,8 +8,9 @@ use cedar_types::base::{Loc, SchemaError};
 use std::alloc::{AllocError, Global};
 use thiserror::Error;
 
-/// The number of characters that are shown of an unexpected text.
-const MAX_SHOWN: usize = 40;
+/// The most characters of an unexpected text that are quoted: enough to know it by, because its
+/// place is told too.
+const MAX_CHARACTERS_QUOTED: usize = 40;
 
 /// The hint behind a text in quotes that has several lines.
 const LONG_TEXT: &str =
@@ -99,7 +100,8 @@ pub fn read_fault(
     })
 }
 
-/// The number that begins with the minus at this byte, if it stands on one line; else only the minus.
+/// The number that begins with the minus at this byte, if it stands on one line; else only the
+/// minus.
 fn negative_number(text: &str, start: usize) -> &str {
     let rest = text.get(start..).unwrap_or("");
     let inside = rest.strip_prefix('-').unwrap_or("");
@@ -172,13 +174,14 @@ pub(crate) fn push_hint(message: &mut String, hint: &str) -> Result<(), AllocErr
 /// The beginning of the text that was read, up to the end of its line.
 pub(crate) fn beginning(text: &str) -> &str {
     let line = text.lines().next().unwrap_or("");
-    match line.char_indices().nth(MAX_SHOWN) {
+    match line.char_indices().nth(MAX_CHARACTERS_QUOTED) {
         Some((size, _)) => line.get(..size).unwrap_or(""),
         None => line,
     }
 }
 
-/// The reason why a text gives no schema. If the cause is refused memory, the answer is an `AllocError`.
+/// The reason why a text gives no schema. If the cause is refused memory, the answer is an
+/// `AllocError`.
 pub fn schema_fault(
     alloc: Global,
     text: &str,
@@ -210,7 +213,8 @@ fn refused_fault(
     Ok(refused)
 }
 
-/// The first hundred faults of a schema's text, by place; only `first`, which is one of them, if none can be told.
+/// The first hundred faults of a schema's text, by place; only `first`, which is one of them, if
+/// none can be told.
 pub fn all_schema_faults(
     alloc: Global,
     text: &str,
@@ -236,13 +240,14 @@ fn told_fault(alloc: Global, text: &str, fault: SchemaFault) -> Result<TextFault
     }
 }
 
-/// The fault of a schema that can be read and that Cedar refuses all the same: a name of a namespace hides one outside of
-/// namespaces.
+/// The fault of a schema that can be read, but that Cedar refuses: a name of a namespace hides one
+/// outside of namespaces.
 pub fn shadowing_fault(alloc: Global, text: &str) -> Result<Option<TextFault>, AllocError> {
     hiding_fault(alloc, text, shadowing_name(alloc, text)?)
 }
 
-/// The fault of a schema in whose text this name of a namespace hides one outside, if there is such a name.
+/// The fault of a schema in whose text this name of a namespace hides one outside, if there is such
+/// a name.
 pub fn hiding_fault(
     alloc: Global,
     text: &str,

@@ -30,7 +30,8 @@ pub struct Finding {
     pub text: String,
     /// The hint; empty if none is known.
     pub hint: String,
-    /// The other types with this finding at this place: the first few, and the number of the others.
+    /// The other types with this finding at this place: the first few, and the number of the
+    /// others.
     pub also: Vec<String>,
     /// The environments of an error; none if it holds in all.
     pub environments: Vec<String>,
@@ -40,7 +41,8 @@ pub struct Finding {
 /// The number of entities that a policy or a set of policies dereferences, one after another.
 #[derive(Clone, Copy)]
 pub enum Requirement {
-    /// No number is given: in Partial, for a policy whose check fails, and for a set of such policies.
+    /// No number is given: in Partial, for a policy whose check fails, and for a set of such
+    /// policies.
     Unsaid,
     /// No number is enough.
     NoLevel,
@@ -54,7 +56,8 @@ impl Default for Requirement {
 }
 
 impl Requirement {
-    /// The requirement of two policies together: the greater level, and none is enough if none is for one of them.
+    /// The requirement of two policies together: the greater level, and none is enough if none is
+    /// for one of them.
     pub fn join(self, other: Requirement) -> Requirement {
         match (self, other) {
             (Requirement::NoLevel, _) | (_, Requirement::NoLevel) => Requirement::NoLevel,
@@ -71,7 +74,8 @@ impl Requirement {
 pub struct Verdict {
     pub is_accepted: bool,
     pub requirement: Requirement,
-    /// The first errors, in ascending order, each once: one at least where the policy is refused, and none where it is accepted.
+    /// The first errors, in ascending order, each once: at least one if the policy is refused, and
+    /// none if it is accepted.
     pub errors: Vec<Finding>,
     /// The first warnings, in ascending order, as many as there is room for behind the errors.
     pub warnings: Vec<Finding>,
@@ -82,7 +86,8 @@ pub struct Verdict {
 }
 
 impl Finding {
-    /// A finding of this text in a policy and nothing else: at this place, or at the place of the policy if none is given.
+    /// A finding of this text in a policy and nothing else: at this place, or at the place of the
+    /// policy if none is given.
     pub fn new(
         alloc: Global,
         policy: &Template,

@@ -1,5 +1,5 @@
-//! Parts of conditions that Cedar's own parser refuses, though they can be read: slots, unknowns, calls of undefined functions,
-//! and functions that are called as methods, or methods as functions.
+//! Parts of conditions that Cedar's own parser refuses, although they can be read: slots, unknowns,
+//! calls of undefined functions, and functions that are called as methods, or methods as functions.
 use crate::faults::{TextFault, push_hint};
 use crate::hints::hint_for_call;
 use crate::marks::{Marked, add_part, marked_in_scope};
@@ -8,10 +8,11 @@ use cedar_extensions::functions::{is_constructor, is_method};
 use cedar_types::base::{Expr, ExprKind, ExtensionSchemas, Loc, Name, Template};
 use std::alloc::{AllocError, Global};
 
-/// The fault of a part of a condition that may not stand there. Slots and unknowns are refused, because validation promises
-/// nothing of policies with them. A call of an undefined function is refused even if typing never looks there; the functions
-/// are Cedar's and those of this table, in which a host may have its own. The way of a call shows only in a text: JSON gives
-/// none, because it writes all calls alike.
+/// The fault of a part of a condition that may not stand there. Slots and unknowns are refused,
+/// because validation promises nothing of policies with them. A call of an undefined function is
+/// refused even if typing never looks there; the functions are Cedar's and those of this table, in
+/// which a host may have its own. The way of a call shows only in a text: JSON gives none, because
+/// it writes all calls alike.
 pub fn forbidden_part<C>(
     alloc: Global,
     functions: &ExtensionSchemas<C>,
@@ -21,7 +22,8 @@ pub fn forbidden_part<C>(
     Ok(marks_unless_forbidden(alloc, functions, text, policy)?.err())
 }
 
-/// The parts of a policy that may be read as others, or the fault of a forbidden part. One walk finds both.
+/// The parts of a policy that may be read as others, or the fault of a forbidden part. One walk
+/// finds both.
 pub fn marks_unless_forbidden<C>(
     alloc: Global,
     functions: &ExtensionSchemas<C>,
@@ -87,7 +89,8 @@ fn no_function(
     Ok(message)
 }
 
-/// The right way to call a function that is called as a method, or a method that is called as a function.
+/// The right way to call a function that is called as a method, or a method that is called as a
+/// function.
 fn explain_call(
     alloc: Global,
     text: &str,

@@ -3,8 +3,8 @@ use crate::digits::push_number;
 use crate::escapes::is_hidden;
 use std::alloc::AllocError;
 
-/// Writes values of JSON behind a text, one after another. It remembers only whether a comma is due, at any depth, because the
-/// end of a nested value is again a value before the next.
+/// Writes values of JSON behind a text, one after another. It remembers only whether a comma is
+/// due, at any depth, because the end of a nested value is again a value before the next.
 #[derive(Clone, Copy)]
 pub struct JsonWriter {
     is_behind_value: bool,
@@ -120,7 +120,8 @@ impl JsonWriter {
         self.number(out, number)
     }
 
-    /// Begins a line between two values, where JSON allows blanks. A comma that is due comes before the line's end.
+    /// Begins a line between two values, because JSON allows blanks there. A comma that is due
+    /// comes before the line's end.
     pub fn begin_line(&mut self, out: &mut String) -> Result<(), AllocError> {
         self.begin(out, "\n")
     }
@@ -151,8 +152,8 @@ fn is_plain(byte: u8) -> bool {
     matches!(byte, b' '..=b'~') && byte != b'"' && byte != b'\\' && byte != b'#'
 }
 
-/// Adds a character of a text. A quote or a backslash gets a backslash before it; a character that [`is_hidden`], or a `#`
-/// behind another, is written as `\u` with its digits.
+/// Adds a character of a text. A quote or a backslash gets a backslash before it; a character that
+/// [`is_hidden`], or a `#` behind another, is written as `\u` with its digits.
 fn push_char(out: &mut String, c: char) -> Result<(), AllocError> {
     if c == '"' || c == '\\' {
         out.push('\\')?;

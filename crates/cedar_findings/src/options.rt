@@ -1,5 +1,5 @@
-//! Options of the command line in one table, by which they are read, and of which the help, the completion and the page are
-//! made.
+//! Options of the command line in one table, by which they are read, and of which the help, the
+//! completion and the page are made.
 use crate::misuses::Misuse;
 
 /// An option that takes a value, as the next word or behind a `=`.
@@ -48,7 +48,7 @@ pub enum Values {
     /// The name of a file.
     File,
     Number,
-    /// One of these words.
+    /// A value that is one of these words.
     OneOf(&'static [&'static str]),
 }
 

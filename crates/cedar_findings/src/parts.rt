@@ -2,8 +2,8 @@
 use cedar_types::base::{BinaryOp, Expr, ExprKind, Loc, Template};
 use std::alloc::{AllocError, Global};
 
-/// The greatest size in bytes of a text that is shown as an example.
-const MAX_SHOWN: usize = 80;
+/// The most bytes of a text that is shown as an example: the reader has a longer one in the policy already.
+const MAX_BYTES_SHOWN: usize = 80;
 
 /// An operator and its two operands.
 #[derive(Clone, Copy)]
@@ -17,7 +17,7 @@ pub struct Operation<'a> {
 pub fn text_at(text: &str, place: Option<Loc>) -> Option<&str> {
     let place = place?;
     let part = text.get(place.start..place.end)?;
-    let is_plain = part.len() <= MAX_SHOWN && !part.contains('\n') && !part.contains("//");
+    let is_plain = part.len() <= MAX_BYTES_SHOWN && !part.contains('\n') && !part.contains("//");
     (is_plain && !part.is_empty()).then_some(part)
 }
 

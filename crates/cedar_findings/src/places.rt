@@ -1,5 +1,5 @@
-//! Lines and columns of bytes in a text. It is fast for bytes in ascending order, or nearly so; an index makes it fast for any
-//! order.
+//! Lines and columns of bytes in a text. It is fast for bytes in ascending order, or nearly so; an
+//! index makes it fast for any order.
 use crate::columns::Columns;
 use cedar_reading::Position;
 use memchr::memchr_iter;
@@ -8,15 +8,16 @@ use std::alloc::{AllocError, Global};
 /// The number of bytes between two marks of an index, or up to three more.
 const STEP: usize = 4096;
 
-/// Finds the positions of bytes in a text. Going on in the text costs the bytes between. Going back starts anew, or at the mark
-/// before if there is an index.
+/// Finds the positions of bytes in a text. Going on in the text costs the bytes between. Going back
+/// starts anew, or at the mark before if there is an index.
 #[derive(Drop)]
 pub struct Places<'a> {
     text: &'a str,
     columns: Columns,
     at: usize,
     position: Position,
-    /// The first character at or behind each multiple of `STEP`, with its position, if there is an index.
+    /// The first character at or behind each multiple of `STEP`, with its position, if there is an
+    /// index.
     marks: Vec<Mark>,
 }
 
@@ -82,7 +83,7 @@ impl<'a> Places<'a> {
     }
 }
 
-/// The position where a text begins.
+/// The position at which a text begins.
 const BEGINNING: Position = Position { line: 1, column: 1 };
 
 /// The position behind this text, which begins at `start`, with columns in this unit.

@@ -3,7 +3,7 @@
 /// The syntax of a text.
 #[derive(Clone, Copy, PartialEq, Eq, Debug)]
 pub enum Syntax {
-    /// Cedar's own.
+    /// Cedar's own syntax.
     Cedar,
     /// Cedar's forms of JSON.
     Json,
@@ -28,8 +28,8 @@ impl Syntax {
         }
     }
 
-    /// The syntax of a text. JSON begins with a brace or a bracket, perhaps behind blanks, and no text in Cedar's own syntax
-    /// does.
+    /// The syntax of a text. JSON begins with a brace or a bracket, perhaps behind blanks, and no
+    /// text in Cedar's own syntax does.
     pub fn of(text: &str) -> Syntax {
         if text.trim_start().starts_with(['{', '[']) {
             Syntax::Json

@@ -4,12 +4,12 @@ use std::collections::HashSet;
 use std::fmt::Debug;
 use std::hash::Hash;
 
-/// All of a value.
+/// The text of all of a value.
 pub fn picture<T: Debug>(alloc: Global, value: &T) -> Result<String, AllocError> {
     format!(in alloc; "{value:?}")
 }
 
-/// All of each of these values, in order.
+/// The text of all of each of these values, in order.
 pub fn pictures<T: Debug>(alloc: Global, values: &[T]) -> Result<Vec<String>, AllocError> {
     let mut texts = Vec::new(alloc);
     for value in values {

@@ -173,7 +173,7 @@ fn whole_checks_by<W: Write>(
         holds_finding: false,
         errors: 2,
     };
-    // one of the many findings is held before
+    // the sets hold one of the many findings before the check
     let large = WholeCheck {
         checker,
         policy: &many.template,

@@ -1,4 +1,4 @@
--- The examples of what the check of an expression promises.
+-- Examples of the promises of the check of an expression.
 use Rattle.std.proofs.Common.{refl, sym}
 use Rattle.std.specs.Prelude.{codes}
 use Rattle.cedar_types.specs.declared.base.expressions.operators.Var.{Var}

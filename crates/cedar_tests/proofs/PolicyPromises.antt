@@ -1,4 +1,4 @@
--- The examples of what checks of a policy promise.
+-- Examples of the promises of the checks of a policy.
 use Rattle.std.proofs.Common.{◌≡◌, ◌≤◌, inl, inr, true, false, true≢false, [], ◌∷◌, length, Some, None, refl, ap, subst, arith}
 use Rattle.cedar_types.specs.declared.base.names.slots.SlotId.{SlotId}
 use Rattle.cedar_types.specs.declared.base.types.ValidationMode.TheVariants.{Strict}

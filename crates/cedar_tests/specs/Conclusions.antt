@@ -1,5 +1,5 @@
--- Conclusions that a host draws from laws of the libraries. Each needs the whole of a law: it does not follow where the law
--- says less, for example of types alone, or of answers alone.
+-- Conclusions that a host draws from laws of the libraries. Each needs the whole of a law: it does
+-- not follow if the law says less, for example of types alone, or of answers alone.
 use Rattle.std.specs.Prelude.{◌≡◌, ℕ, true, List, [], ◌∷◌, Some}
 use Rattle.cedar_types.specs.declared.base.types.ValidationMode.TheVariants.{Strict, Permissive, Partial}
 use Rattle.cedar_types.specs.Errors.{Warning}
@@ -21,7 +21,8 @@ use Rattle.cedar_typechecker.specs.Slices.Soundness.{with_store, levels_in, OfEa
 
 -- ---- slices
 
--- where an expression fails over the store, its typed copy fails alike over a part that holds the slice
+-- if an expression fails over the store, its typed copy fails alike over a part that holds the
+-- slice
 abbrev pub CopiesFailAlike : Type 0
 CopiesFailAlike =
     OfEachSlice
@@ -31,28 +32,30 @@ CopiesFailAlike =
 
 -- ---- modes
 
--- where Permissive types an expression, Partial finds no other type, no other capabilities and no other copy
+-- if Permissive types an expression, Partial finds no other type, no other capabilities and no
+-- other copy
 abbrev pub PartialFindsNoOther : Type 0
 PartialFindsNoOther =
     (s : Setting) (e : Source) (prior : Caps) (d : ℕ) (t u : Ty) (c c' : Caps) (x y : TypedTree)
     → Derives (in_mode Permissive s) e prior d t c x → Derives (in_mode Partial s) e prior d u c' y
     → (t ≡ u) × (c ≡ c') × (x ≡ y)
 
--- where the check of a policy passes in Strict, and finds nothing but that the policy is impossible, so it does in Permissive
+-- if the check of a policy passes in Strict, and finds only that the policy is impossible, so does
+-- the check in Permissive
 abbrev pub ImpossibleInBothModes : Type 0
 ImpossibleInBothModes =
     WhereStrictPasses
     (λ b t. CheckedOn (basis_in_mode Strict b) t true [] [] [] (impossible t ∷ [])
     → CheckedOn (basis_in_mode Permissive b) t true [] [] [] (impossible t ∷ []))
 
--- the level that it requires in Strict it requires in Permissive
+-- a policy that passes in Strict requires in Permissive the level that it requires in Strict
 abbrev pub RequiredInBothModes : Type 0
 RequiredInBothModes =
     WhereStrictPasses
     (λ b t. (n : ℕ) → IsRequiredLevel (basis_in_mode Strict b) t (Some n)
     → IsRequiredLevel (basis_in_mode Permissive b) t (Some n))
 
--- and where its validation with levels finds no error in Strict, it finds none in Permissive
+-- if validation with levels finds no error in Strict, it finds none in Permissive
 abbrev pub SilentInBothModes : Type 0
 SilentInBothModes =
     WhereStrictPasses

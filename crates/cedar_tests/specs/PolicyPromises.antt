@@ -1,5 +1,6 @@
--- What checks of a policy promise: policies, errors and levels for which a promise is false, and those for which nothing is
--- promised. Each shows a part of the promise that no other example needs.
+-- Promises of the checks of a policy: policies, errors and levels for which a promise is false, and
+-- those for which nothing is promised. Each shows a part of the promise that no other example
+-- needs.
 use Rattle.std.specs.Prelude.{◌≡◌, ℕ, true, List, [], ◌∷◌, Some}
 use Rattle.cedar_types.specs.declared.base.expressions.operators.UnaryOp.{UnaryOp}
 use Rattle.cedar_types.specs.declared.base.types.ValidationMode.TheVariants.{Strict}
@@ -30,10 +31,10 @@ use Rattle.cedar_typechecker.specs.Validations.{ValidIsSafe}
 abbrev pub lost_and_wrong : PlainTemplate
 lost_and_wrong = policy_when (equal mistyped (the lost))
 
--- validation may find as many errors as there are such ids
+-- beside as many errors as there are such ids, the promise is made, and it is false
 pub record ErrorsOfMembers : Type 0 where
   pub one : (e : Finding) → ValidIsSafe (review_basis Strict) lost_and_wrong (e ∷ []) → ⊥
-  -- with one more, nothing is promised
+  -- beside one error more, nothing is promised
   pub two : (e f : Finding) → ValidIsSafe (review_basis Strict) lost_and_wrong (e ∷ f ∷ [])
 
 -- a policy that requires three levels, and its errors in a validation for two
@@ -46,9 +47,9 @@ too_deep = record unguarded_access { fault = exceeds 2 3 }
 pub record ErrorsBesideLevels : Type 0 where
   -- an error of a type does not free from the promise
   pub of_types : GuidedBeside (unguarded_access ∷ []) → ⊥
-  -- an error of a level does, behind the other too
+  -- an error of a level frees from the promise, also behind an error of a type
   pub of_levels : GuidedBeside (unguarded_access ∷ too_deep ∷ [])
-  -- these errors do
+  -- errors that free from the promise
   pub entity_type : (p : Path) → is_of_names_or_levels (unrecognized_entity_type p) ≡ true
   pub action : (u : Uid) → is_of_names_or_levels (unrecognized_action_id u) ≡ true
   pub invariant : is_of_names_or_levels internal_invariant_violation ≡ true
@@ -57,29 +58,30 @@ pub record ErrorsBesideLevels : Type 0 where
 
 -- ---- the required level
 
--- `(principal.active && !principal.active) && (1 + true)`, whose right side is never evaluated, and whose check fails. So no
--- condition was typed that demands a level
+-- `(principal.active && !principal.active) && (1 + true)`, whose right side is never evaluated, and
+-- whose check fails. So no condition was typed that demands a level
 abbrev pub never_both : PlainTemplate
 never_both =
     policy_when
     (and tt (and tt (active_of principal) (unary tt UnaryOp.Not (active_of principal))) mistyped)
 
--- it is false over the store, and misses the principal over the slice of no steps
+-- the policy is false over the store, and misses the principal over the slice of no steps
 pub record BothHalvesAtItsLevel : Type 0 where
   pub required : IsRequiredLevel (wiki_basis Strict) never_both (Some 0)
   pub broken : IsKeptAtItsLevel (wiki_basis Strict) never_both → ⊥
 
 -- ---- typed conditions
 
--- `action in Action::"meet" && false`, by a schema that declares the action twice: its typed condition is the left side, which
--- is true
+-- `action in Action::"meet" && false`, by a schema that declares the action twice: its typed
+-- condition is the left side, which is true
 abbrev pub met_and_false : PlainTemplate
 met_and_false = policy_when (and tt greet_in_meet false_lit)
 
 pub record CopiesOfFaultySchemas : Type 0 where
-  -- none of the checked environments has a condition that means the same. One that is not checked may have
+  -- none of the checked environments has a condition of this meaning. One that is not checked may
+  -- have
   pub some : SomeCopyMeansTheSame (meet_twice_basis Strict) met_and_false → ⊥
-  -- at level 0 there is a level error, and at level 1 there is none: there the promise is false
+  -- level 0 has a level error, and level 1 has none: at level 1 the promise is false
   pub beyond : HasLevelError (by_schema twice_declared Strict) met_and_false 0 (exceeds 0 1)
   pub within : PolicyIsWithinLevel (by_schema twice_declared Strict) met_and_false 1
   pub own : OwnCopySuffices (by_schema twice_declared Strict) met_and_false → ⊥

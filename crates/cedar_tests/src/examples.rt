@@ -1,17 +1,19 @@
-//! Examples of the libraries' promises, and conclusions from their laws, each on a function that does nothing.
+//! Examples of the libraries' promises, and conclusions from their laws, each on a function that
+//! does nothing.
 ghost use Rattle.cedar_tests.specs.Conclusions.{CopiesFailAlike, ImpossibleInBothModes, PartialFindsNoOther, RequiredInBothModes, SilentInBothModes};
 ghost use Rattle.cedar_tests.specs.ExpressionPromises.{AnswerExamples, FailureExamples, SuccessExamples};
 ghost use Rattle.cedar_tests.specs.PolicyPromises.{BothHalvesAtItsLevel, CopiesOfFaultySchemas, ErrorsBesideLevels, ErrorsOfMembers};
 
-/// Answers of the check of an expression that keep each promise, and answers that break one of them alone.
+/// Answers of the check of an expression that keep each promise, and answers that break one of them
+/// alone.
 pub fn examples_of_expression_promises()
     ensures success { SuccessExamples }
     ensures failure { FailureExamples }
     ensures answer { AnswerExamples }
 {}
 
-/// Beside which errors a policy keeps its promise; that the promise of a required level has two halves; and typed conditions
-/// that mean something else, by schemas with a fault.
+/// Examples of errors beside which a policy keeps its promise; of the two halves of the promise of
+/// a required level; and of typed conditions that mean something else, by schemas with a fault.
 pub fn examples_of_policy_promises()
     ensures members { ErrorsOfMembers }
     ensures errors { ErrorsBesideLevels }

@@ -1,5 +1,6 @@
-//! Tests of the three libraries' calls that no program makes, and of texts that no case shows; and examples of what their
-//! definitions say. They stand apart, since a crate with tests is proved twice.
+//! Tests of the three libraries' calls that no program makes, and of texts that no case shows; and
+//! examples of the promises of their definitions. They stand apart, because a crate with tests is
+//! proved twice.
 #![tactic(auto)]
 
 pub mod examples;

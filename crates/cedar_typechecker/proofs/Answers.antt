@@ -1,22 +1,24 @@
 -- The entity types and actions that a scope admits, from lists with the same members.
-use Rattle.std.proofs.Common.{◌≡◌, refl, sym, ap, ◌∙◌, Bool, false, not, ◌&&◌, List, [], ◌∷◌, map, Option, Some, None}
+use Rattle.std.proofs.Common.{◌≡◌, refl, sym, ap, ◌∙◌, Bool, true, false, not, ◌&&◌, ◌||◌, List, [], ◌∷◌, map, Option, Some, None}
 use Rattle.std.specs.List.{list_any}
 use Rattle.std.specs.Option.{option_to_list}
 use Rattle.std.specs.Prelude.{IsPermutation}
 use Rattle.std.proofs.lemmas.List.Sorted.{list_any-IsPermutation}
 use Rattle.std.proofs.lemmas.Map.Keys.{IsDistinct-IsPermutation}
 use Rattle.cedar_types.specs.declared.base.names.entities.EntityUID.{EntityUID}
+use Rattle.cedar_types.specs.Environments.Linking.{type_names}
 use Rattle.cedar_types.specs.Schemas.Listings.{ListsTypes}
 use Rattle.cedar_types.specs.Names.{Path, Uid, path_eq, uid_eq, uid_of, placed_uid}
-use Rattle.cedar_types.specs.Schemas.{Schema, DeclaredAction, Application, has_fault, has_repeat, is_among, uid_is_among, descendants_of}
+use Rattle.cedar_types.specs.Schemas.{Schema, DeclaredType, DeclaredAction, Application, has_fault, has_repeat, is_among, declares_type, uid_is_among, descendants_of}
 use Rattle.cedar_types.specs.Schemas.{action_named}
-use Rattle.cedar_types.specs.Templates.{Scope, PlainTemplate}
+use Rattle.cedar_types.specs.Templates.{Scope}
 use Rattle.cedar_types.proofs.Names.Ids.{path_decides, uid_decides, path_symm}
 use Rattle.cedar_types.proofs.Schema.Faultless.{faultless}
+use Rattle.cedar_types.proofs.Schema.Places.{any_mapped}
 use Rattle.cedar_typechecker.specs.declared.rbac.flags.Side.{Side}
-use Rattle.cedar_typechecker.specs.Applications.{fits, has_fitting_action, types_on, equal_type, might_help, in_might_help}
+use Rattle.cedar_typechecker.specs.Applications.{types_on, equal_type, might_help, in_might_help}
 use Rattle.cedar_typechecker.specs.Members.{SameMembers}
-use Rattle.cedar_typechecker.specs.Scopes.{declarations, applications, admitted_types, admitted_applications}
+use Rattle.cedar_typechecker.specs.Scopes.{declarations, applications}
 use Rattle.cedar_typechecker.proofs.Lists.{pass_alike, any_of_all, distinct_from, apart_from, repeat_mapped}
 
 -- ---- entity types
@@ -32,8 +34,37 @@ declared_types s faults listed order =
       apart = apart_from path_eq listed (IsDistinct-IsPermutation path_eq path_symm names listed order (distinct_from path_eq names apart));
     }
 
-same_types : (p : Path → Bool) (wanted listed : List Path) → ListsTypes wanted listed → list_any p listed ≡ list_any p wanted
-same_types p wanted listed lists = pass_alike path_eq path_decides p listed wanted lists.members
+none_passes : {Y : Type 0} (ys : List Y) → list_any (λ y. false) ys ≡ false
+none_passes [] = refl
+none_passes (y ∷ ys) = none_passes ys
+
+shuffled : (a b c d : Bool) → ((a || b) || (c || d)) ≡ ((a || c) || (b || d))
+shuffled true b c d = refl
+shuffled false true true d = refl
+shuffled false true false d = refl
+shuffled false false c d = refl
+
+some_passes_either : {Y : Type 0} (f g : Y → Bool) (ys : List Y)
+    → list_any (λ y. f y || g y) ys ≡ (list_any f ys || list_any g ys)
+some_passes_either f g [] = refl
+some_passes_either f g (y ∷ ys) =
+    ap (λ b. (f y || g y) || b) (some_passes_either f g ys) ∙ shuffled (f y) (g y) (list_any f ys) (list_any g ys)
+
+-- a test of pairs holds of some pair, whichever of the two is taken first
+pub some_pair : {X Y : Type 0} (r : X → Y → Bool) (xs : List X) (ys : List Y)
+    → list_any (λ x. list_any (r x) ys) xs ≡ list_any (λ y. list_any (λ x. r x y) xs) ys
+some_pair r [] ys = sym (none_passes ys)
+some_pair r (x ∷ xs) ys =
+    ap (λ b. list_any (r x) ys || b) (some_pair r xs ys)
+    ∙ sym (some_passes_either (r x) (λ y. list_any (λ x. r x y) xs) ys)
+
+-- some of these types is declared if some declared type is one of these
+pub declared_among : (ts : List DeclaredType) (ps : List Path)
+    → list_any (declares_type ts) ps ≡ list_any (is_among ps) (type_names ts)
+declared_among ts ps =
+    some_pair (λ p t. path_eq p t.name) ps ts
+    ∙ ap (λ f. list_any f ts) (λ i t. list_any (λ p. path_symm p t.name i) ps)
+    ∙ any_mapped (λ t. t.name) (is_among ps) ts
 
 -- ---- actions
 
@@ -57,25 +88,6 @@ same_applications xs ys h p =
     any_of_all p f xs ∙ h (λ a. list_any p (f a)) ∙ sym (any_of_all p f ys)
 
 -- ---- the application
-
--- whether an action fits, from the types and the applications that were listed
-pub fits_listed : (s : Schema) (t : PlainTemplate) (ps rs : List Path) (apps : List Application)
-    → ListsTypes (admitted_types s t.principal) ps → ListsTypes (admitted_types s t.resource) rs
-    → SameMembers apps (admitted_applications s t.action) → list_any (fits ps rs) apps ≡ has_fitting_action s t
-fits_listed s t ps rs apps principals resources same =
-    ap (λ f. list_any f apps)
-    (λ i a. same_types (is_among a.principals) (admitted_types s t.principal) ps principals i
-    && same_types (is_among a.resources) (admitted_types s t.resource) rs resources i)
-    ∙ same (fits (admitted_types s t.principal) (admitted_types s t.resource))
-
--- whether an action fits, from lists that equal those that were listed
-pub fits_held : (s : Schema) (t : PlainTemplate) (ps ps' rs rs' : List Path) (apps apps' : List Application)
-    → ps ≡ ps' → rs ≡ rs' → apps ≡ apps' → ListsTypes (admitted_types s t.principal) ps'
-    → ListsTypes (admitted_types s t.resource) rs'
-    → SameMembers apps' (admitted_applications s t.action)
-    → list_any (fits ps rs) apps ≡ has_fitting_action s t
-fits_held s t ps ps' rs rs' apps apps' p r a principals resources same =
-    (λ i. list_any (fits (p i) (r i)) (a i)) ∙ fits_listed s t ps' rs' apps' principals resources same
 
 -- a flag, from the applications that were listed
 pub flag_listed : (s : Schema) (side : Side) (c : Scope) (apps wanted : List Application) → SameMembers apps wanted

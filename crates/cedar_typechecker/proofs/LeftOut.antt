@@ -1,4 +1,4 @@
--- What is known of environments whose action the scope does not admit.
+-- Facts about environments whose action the scope does not admit.
 pub mod Sets
 pub mod Declared
 pub mod Demands

@@ -1,7 +1,7 @@
 -- Lists with the same members, and lists without repeats.
-use Rattle.std.proofs.Common.{◌≡◌, refl, sym, ap, ◌∙◌, Bool, true, false, ◌||◌, List, [], ◌∷◌, map}
+use Rattle.std.proofs.Common.{◌≡◌, refl, sym, ap, ◌∙◌, Bool, true, false, ◌||◌, cond, List, [], ◌∷◌, map, Option, Some, None, is_some, option_map}
 use Rattle.std.specs.Bool.{Decides}
-use Rattle.std.specs.List.{list_any, flat_map, AllByRecursion, IsDistinct}
+use Rattle.std.specs.List.{list_any, find, flat_map, AllByRecursion, IsDistinct}
 use Rattle.std.proofs.Math.Bool.{or-true}
 use Rattle.std.proofs.lemmas.Bool.Decides.{same_from_decides}
 use Rattle.std.proofs.lemmas.List.Folds.{list_any-append}
@@ -76,3 +76,19 @@ pub repeat_mapped : {X Y : Type 0} (f : X → Y) (same : Y → Y → Bool) (xs :
     → has_repeat same (map f xs) ≡ has_repeat (λ x y. same (f x) (f y)) xs
 repeat_mapped f same [] = refl
 repeat_mapped f same (x ∷ xs) = λ i. sym (any_mapped f (same (f x)) xs) i || repeat_mapped f same xs i
+
+-- ---- searches
+
+-- a search finds a member iff some member passes
+pub found_some : {X : Type 0} (p : X → Bool) (xs : List X) → is_some (find p xs) ≡ list_any p xs
+found_some p [] = refl
+found_some p (x ∷ xs) = at (p x) (found_some p xs)
+  where
+    at : (b : Bool) → is_some (find p xs) ≡ list_any p xs → is_some (cond b (Some x) (find p xs)) ≡ (b || list_any p xs)
+    at true h = refl
+    at false h = h
+
+-- a value is there iff its image is
+pub mapped_some : {X Y : Type 0} (f : X → Y) (o : Option X) → is_some (option_map f o) ≡ is_some o
+mapped_some f None = refl
+mapped_some f (Some x) = refl

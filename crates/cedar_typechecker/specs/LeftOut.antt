@@ -1,5 +1,6 @@
--- Environments whose action the scope does not admit. If the schema alone decides that, their checks are known without typing:
--- irrelevant, without an error, because the test of the action is False; and what they demand is known too.
+-- Environments whose action the scope does not admit. If the schema alone decides that, their
+-- checks are known without typing: irrelevant, without an error, because the test of the action is
+-- False; and their demands are known too.
 use Rattle.std.specs.Prelude.{◌≡◌, ◌↔◌, Bool, true, false, not, ◌&&◌, ◌||◌, List, [], ◌∷◌, map, Option, Some, None, is_some, if◌then◌else◌}
 use Rattle.std.specs.List.{list_all}
 use Rattle.cedar_types.specs.declared.base.types.ValidationMode.{ValidationMode}
@@ -61,7 +62,7 @@ abbrev pub has_links : Env → Bool
 has_links (Declared d p r) = is_some p || is_some r
 has_links Undeclared = true
 
--- ---- what is demanded where the action is left out
+-- ---- demands of an environment whose action is left out
 
 -- the demand of an `in` of the scope: it stands at the policy's place, and dereferences a variable
 abbrev pub in_demand : PlainTemplate → Demand
@@ -96,8 +97,8 @@ abbrev pub may_equal : Schema → ValidationMode → Reference → Path → Bool
 may_equal s m (to_entity u) p = path_eq p u.uid.entity_type || not (has_type s m u.uid)
 may_equal s m to_slot p = true
 
--- typing goes on to an `in` where the principal's type is p: to that of the principal's constraint, or to that of the action's,
--- as `lists` says, if the principal's test is not False
+-- typing goes on to an `in` where the principal's type is p: to that of the principal's constraint,
+-- or to that of the action's, as `lists` says, if the principal's test is not False
 abbrev pub visits_in_beside : Schema → ValidationMode → Bool → Scope → Path → Bool
 visits_in_beside s m lists any p = lists
 visits_in_beside s m lists (equal r) p = lists && may_equal s m r p
@@ -113,7 +114,8 @@ abbrev pub visits_in_env : Schema → ValidationMode → PlainTemplate → Env �
 visits_in_env s m t (Declared d p r) = visits_in s m t d.principal
 visits_in_env s m t Undeclared = false
 
--- the check is irrelevant, without an error, and its typed condition demands no more than an `in` of the scope
+-- the check is irrelevant, without an error, and its typed condition demands no more than an `in`
+-- of the scope
 pub record IsQuiet (s : Setting) (t : PlainTemplate) (e : Env) : Type 0 where
   pub copy : TypedTree
   pub verdict : (v : Verdict)
@@ -122,7 +124,8 @@ pub record IsQuiet (s : Setting) (t : PlainTemplate) (e : Env) : Type 0 where
       → IsOneOf d (add_demands (surroundings_at s.env.schema e) copy 0 [])
       ↔ IsOneOf d (demands_if (visits_in_env s.env.schema s.env.mode t e) t)
 
--- so is each check of a policy where the scope does not admit the action, if the schema alone decides that
+-- so is each check of a policy where the scope does not admit the action, if the schema alone
+-- decides that
 abbrev pub LeftOutIsQuiet : Type 0
 LeftOutIsQuiet =
     (s : Setting) (t : PlainTemplate) → has_fault s.env.schema ≡ false

@@ -12,6 +12,7 @@ pub mod Rows
 pub mod Details
 pub mod Shared
 pub mod Demands
+pub mod Steps
 pub mod Paths
 pub mod Views
 pub mod Answers

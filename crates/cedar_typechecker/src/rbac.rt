@@ -1,5 +1,6 @@
 //! The passes over the names of a policy and over its scope.
 mod actions;
+mod admitted;
 mod application;
 mod entity_types;
 mod flags;

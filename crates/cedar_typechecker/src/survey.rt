@@ -14,12 +14,13 @@ mod demands;
 mod environments;
 mod left_out;
 mod one_action;
+mod required;
 mod scope;
 
 use crate::level_validate::demands::Demand;
 use cedar_types::base::{EntityDerefLevel, PolicyID, ValidationError};
 use demands::{errors_at, least_level};
-pub use environments::{Environment, Environments};
+pub use environments::{Environment, Environments, MAX_ENVIRONMENTS_LISTED};
 pub use left_out::left_out_is_quiet;
 use std::alloc::{AllocError, Global};
 use std::collections::{BTreeMap, BTreeSet};

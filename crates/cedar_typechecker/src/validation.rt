@@ -12,6 +12,8 @@ ghost use Rattle.cedar_typechecker.specs.Slices.Validation.{WarnedIsNeverTrue};
 ghost use Rattle.cedar_typechecker.specs.Validations.{ValidIsSafe};
 ghost use Rattle.cedar_typechecker.specs.ValidatorViews.{schema_in, basis_in};
 
+mod levels;
+
 use crate::rbac::{LiteralErrors, Validator};
 use crate::survey::Environments;
 use cedar_types::base::{

@@ -99,14 +99,14 @@ some_cause false new repeated size is refused shared h = refused refl
 some_cause true true repeated size is refused shared h = absurd (true≢false h)
 some_cause true false repeated size is refused shared h = shared is
 
--- and where it is accepted by both, none
+-- a policy that both accept has no cause
 pub no_cause : (accepted new repeated : Bool) (size : ℕ) → new ≡ not repeated
     → (accepted ≡ true → repeated ≡ false → size ≡ 0) → (accepted && new) ≡ true → size ≡ 0
 no_cause true new false size is none h = none refl refl
 no_cause true new true size is none h = absurd (true≢false (sym h ∙ is))
 no_cause false new repeated size is none h = absurd (true≢false (sym h))
 
--- ---- what is found without a level
+-- ---- findings without a level
 
 no_levels : (m : ValidationMode) (s : Survey) → is_silent (levels_against m None s) ≡ true
 no_levels Strict s = refl

@@ -5,6 +5,6 @@ use Rattle.std.specs.List.{list_any}
 use Rattle.cedar_types.specs.Names.{Text, text_of, text_eq}
 use Rattle.cedar_verdicts.specs.declared.ids.Ids.{Ids}
 
--- an id is known
+-- an id is known to these ids
 abbrev pub has_id : Ids → Text → Bool
 has_id ids t = list_any (text_eq t) (map text_of (keys ids.starts))

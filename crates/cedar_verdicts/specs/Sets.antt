@@ -7,11 +7,12 @@ use Rattle.cedar_typing.specs.Soundness.Policies.{Basis}
 use Rattle.cedar_findings.specs.declared.findings.Verdict.{Verdict}
 use Rattle.cedar_verdicts.specs.Verdicts.{IsRightVerdict, IsWholeVerdict}
 
--- one of these policies has this id
+-- some policy of this list has this id
 abbrev pub has_policy : List PlainTemplate → Text → Bool
 has_policy ts id = list_any (text_eq id) (map (λ t. t.id) ts)
 
--- a right and whole verdict on each policy, in their order; an id is repeated if a policy before it has it
+-- a right and whole verdict on each policy, in their order; an id is repeated if a policy before it
+-- has it
 pub data AreVerdictsOn (b : Basis) (level : Option ℕ) : List PlainTemplate → List Verdict → Type 0 where
   none_yet : AreVerdictsOn b level [] []
   one_more : (t : PlainTemplate) (v : Verdict) {ts : List PlainTemplate} {vs : List Verdict}

@@ -41,13 +41,14 @@ levels_against Strict (Some n) s = level_errors_of s n
 levels_against Permissive (Some n) s = level_errors_of s n
 levels_against Partial (Some n) s = []
 
--- a policy's survey, names and levels have no finding: each check passes, and no name and no level has an error
+-- a policy's survey, names and levels have no finding: each check passes, and no name and no level
+-- has an error
 abbrev pub passes_all : Basis → Option ℕ → PlainTemplate → Survey → Bool
 passes_all b level t s =
     is_silent (levels_against b.mode level s) && (is_silent (name_findings b.mode b.schema t) && passes_of s)
 
--- a policy has no finding: none in its survey, names and levels, and none in the texts of its calls, each of which makes a
--- value
+-- a policy has no finding: none in its survey, names and levels, and none in the texts of its
+-- calls, each of which makes a value
 abbrev pub finds_nothing : Basis → Option ℕ → PlainTemplate → Survey → Bool
 finds_nothing b level t s = passes_all b level t s && is_silent (unread_in t)
 
@@ -70,27 +71,27 @@ level_said (Requirement.Level l) = Some l.level
 
 -- ---- a verdict
 
--- acceptance promises, in Strict and in Permissive, that the policy does not go wrong, and needs only the slice of the level,
--- if one is asked for
+-- acceptance promises, in Strict and in Permissive, that the policy does not go wrong, and needs
+-- only the slice of the level, if one is asked for
 pub record IsPromised (b : Basis) (level : Option ℕ) (t : PlainTemplate) (is_accepted : Bool) : Type 0 where
   pub safe : is_sound b.mode ≡ true → is_accepted ≡ true → DoesNotGoWrong b t
   pub sliced : (n : ℕ) → level ≡ Some n → is_sound b.mode ≡ true → is_accepted ≡ true → NeedsSliceAlone b t n
 
--- a verdict claims no more than holds: acceptance keeps its promise, a level in it is the required one, and only a policy with
--- no findings but level errors has one
+-- a verdict claims no more than holds: acceptance keeps its promise, a level in it is the required
+-- one, and only a policy with no findings but level errors has one
 pub record IsRightVerdict (b : Basis) (level : Option ℕ) (t : PlainTemplate) (v : Verdict) : Type 0 where
   pub promised : IsPromised b level t v.is_accepted
   pub required : is_said v.requirement ≡ true → IsRequiredLevel b t (level_said v.requirement)
   pub only : is_said v.requirement ≡ true → PassesWithoutLevel b t
 
--- a verdict claims no less than holds: a policy is accepted exactly if nothing is found against it, and no policy of its set
--- before it has its id
+-- a verdict claims no less than holds: a policy is accepted exactly if nothing is found against it,
+-- and no policy of its set before it has its id
 pub record IsWholeVerdict (b : Basis) (level : Option ℕ) (t : PlainTemplate) (is_repeated : Bool) (v : Verdict) : Type 0 where
   pub survey : Survey
   pub surveyed : IsSurveyOf b t survey
   pub accepted : v.is_accepted ≡ (finds_nothing b level t survey && not is_repeated)
-  -- where it is refused, an error says so, and where it is accepted, none is listed
+  -- an error is listed if the policy is refused, and none if it is accepted
   pub refused : v.is_accepted ≡ false → 0 < length v.errors.items
   pub clean : v.is_accepted ≡ true → length v.errors.items ≡ 0
-  -- where nothing is found against it, its level is said
+  -- the level is said if nothing is found against the policy
   pub said : finds_nothing b level t survey ≡ true → is_sound b.mode ≡ true → is_said v.requirement ≡ true

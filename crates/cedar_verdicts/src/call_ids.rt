@@ -24,9 +24,9 @@ impl CallIds {
         }
     }
 
-    /// Takes note of the id of a policy of this file. Where another file has it, the policy is refused, and an error says so: a
-    /// verdict that accepts is the one that was given (clause `strict`), and the level stays (clause `level`). It fails where memory
-    /// is refused.
+    /// Takes note of the id of a policy of this file. If another file has the id, the policy is
+    /// refused, and an error says so: a verdict that accepts is the one that was given (clause
+    /// `strict`), and the level stays (clause `level`). It fails if memory is refused.
     pub fn take(
         &mut self,
         alloc: Global,

@@ -1,12 +1,10 @@
 // Environments of an error, as a finding shows them.
-use cedar_typechecker::survey::{Environment, Environments};
+use cedar_typechecker::survey::{Environment, Environments, MAX_ENVIRONMENTS_LISTED};
 use cedar_types::base::EntityType;
 use std::alloc::{AllocError, Global};
 
-/// The number of environments that are shown.
-const MAX_SHOWN: usize = 5;
-
-/// Environments of a finding that does not hold in all applicable ones: the first few, and the number of the others.
+/// Environments of a finding that does not hold in all applicable ones: the first few, at most as many as a survey lists for an
+/// error, and the number of the others.
 #[derive(Drop)]
 pub struct ShownEnvironments {
     count: u64,
@@ -26,7 +24,7 @@ impl ShownEnvironments {
     pub fn add(&mut self, alloc: Global, environments: &Environments) -> Result<(), AllocError> {
         self.count = self.count.saturating_add(environments.count);
         for environment in &environments.listed {
-            if self.shown.len() < MAX_SHOWN {
+            if self.shown.len() < MAX_ENVIRONMENTS_LISTED {
                 self.shown.push(environment_shown(alloc, environment)?)?;
             }
         }

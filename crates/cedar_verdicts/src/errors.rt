@@ -1,4 +1,4 @@
-// What is wrong in a policy, before it is put into words.
+// Errors of a policy, before they are put into words.
 ghost use Rattle.std.specs.Prelude.{◌≡◌, ◌<◌, ◌≤◌, true, false, length, is_some, IfOk, OnOk};
 
 use crate::causes::{Cause, Found, place_of};
@@ -7,16 +7,18 @@ use cedar_reading::Position;
 use cedar_types::base::{Template, ValidationMode};
 use std::alloc::{AllocError, Global};
 
-/// The text for a policy that is refused without an error, in a mode in which each name is the schema's.
+/// The text for a policy that is refused without an error, in a mode in which each name is the
+/// schema's.
 const NESTED: &str = "nested too deep to be checked: fewer than 400 parts may stand inside \
      each other, and a chain of `&&`, `||`, `+` or accesses nests one deeper at each step";
 
-/// The text for such a policy in Partial, where the schema need not declare each name.
+/// The text for such a policy in Partial, in which the schema need not declare each name.
 const UNEXPLAINED: &str = "refused without an error: a part is nested too deep, or names what \
      the schema does not declare";
 
-/// Why a policy is refused: its errors, and the policy before it that has its id, at this position. There is a cause at least
-/// where one of the two is so, and none where neither is.
+/// The causes for which a policy is refused: its errors, and the policy before it that has its id,
+/// at this position. There is at least one cause if the policy is not accepted or an earlier one
+/// has its id, and none otherwise.
 pub fn error_causes<'a>(
     alloc: Global,
     mode: ValidationMode,
@@ -35,7 +37,8 @@ pub fn error_causes<'a>(
     Ok(causes)
 }
 
-/// Why a policy is refused by itself: its errors, or where it has none, that none says why.
+/// The causes for which a policy is refused by itself: its errors, or if it has none, that none
+/// explains it.
 fn why_refused<'a>(
     alloc: Global,
     mode: ValidationMode,
@@ -91,7 +94,7 @@ fn errors_found<'a>(
     Ok(causes)
 }
 
-/// Where there is no cause, adds one that says so.
+/// Adds a cause that explains the refusal, if there is no other.
 fn explain(
     mode: ValidationMode,
     policy: &Template,

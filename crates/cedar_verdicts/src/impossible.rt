@@ -1,11 +1,11 @@
 // Parts of a policy that make it impossible.
 use crate::settings::Settings;
 use cedar_findings::hints::hint_for_undeclared;
-use cedar_typechecker::survey::{Environment, Environments};
+use cedar_typechecker::survey::Environments;
 use cedar_typechecker::typecheck::{PolicyCheck, Typechecker};
 use cedar_types::base::{
-    ActionConstraint, ArgumentCheck, BoolType, CedarType, EntityType, Expr, ExprKind, Loc,
-    Template, ValidatorSchema,
+    ActionConstraint, ArgumentCheck, BoolType, CedarType, Expr, ExprKind, Loc, Template,
+    ValidatorSchema,
 };
 use cedar_types::types::request_env::RequestEnv;
 use std::alloc::{AllocError, Global};
@@ -15,9 +15,6 @@ const MAX_CHECKS: usize = 200;
 
 /// The number of parts that are named. A policy with more is not explained.
 const MAX_PARTS: usize = 5;
-
-/// The number of environments of a part that are listed.
-const MAX_LISTED: usize = 5;
 
 /// A bound on parts that stand inside each other: more than typing descends.
 const MAX_DEPTH: usize = 1000;
@@ -87,7 +84,7 @@ fn add_part(
     };
     for part in parts.iter_mut() {
         if part.place == place {
-            add_environment(alloc, &mut part.environments, env)?;
+            part.environments.add(alloc, env)?;
             return Ok(true);
         }
     }
@@ -95,7 +92,7 @@ fn add_part(
         return Ok(false);
     }
     let mut environments = Environments::none(alloc);
-    add_environment(alloc, &mut environments, env)?;
+    environments.add(alloc, env)?;
     parts.push(FalsePart {
         place,
         environments,
@@ -112,33 +109,6 @@ fn hint_for(alloc: Global, schema: &ValidatorSchema, part: &Typed) -> Result<Str
     match &base.annotation {
         Some(ty) => hint_for_undeclared(alloc, schema, ty, attribute),
         None => Ok(String::new(alloc)),
-    }
-}
-
-fn add_environment(
-    alloc: Global,
-    environments: &mut Environments,
-    env: &RequestEnv<'_>,
-) -> Result<(), AllocError> {
-    environments.count = environments.count.saturating_add(1);
-    if environments.listed.len() >= MAX_LISTED {
-        return Ok(());
-    }
-    let request = env.to_request_type(alloc)?;
-    let principal_slot = copy(env.principal_slot())?;
-    let resource_slot = copy(env.resource_slot())?;
-    environments.listed.push(Environment {
-        request,
-        principal_slot,
-        resource_slot,
-    })?;
-    Ok(())
-}
-
-fn copy(ty: Option<&EntityType>) -> Result<Option<EntityType>, AllocError> {
-    match ty {
-        Some(ty) => Ok(Some(ty.clone()?)),
-        None => Ok(None),
     }
 }
 

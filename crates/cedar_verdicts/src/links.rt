@@ -202,8 +202,7 @@ pub fn judge_link<C: ArgumentCheck>(
         Syntax::Cedar => text,
         Syntax::Json => "",
     };
-    let verdict = judge(alloc, settings, examples, policy)?;
-    Ok(verdict)
+    judge(alloc, settings, examples, policy)
 }
 
 fn read_links(alloc: Global, text: &str) -> Result<Vec<Link>, FormError> {

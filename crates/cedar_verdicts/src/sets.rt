@@ -59,8 +59,7 @@ impl<'a> SetJudge<'a> {
             ≡ (text_eq t (text_of policy.now.id.text) || has_id self.old.ids t)) }
     {
         let marks = marked_parts(alloc, policy)?;
-        let verdict = self.judge_marked(alloc, settings, policy, marks.as_slice())?;
-        Ok(verdict)
+        self.judge_marked(alloc, settings, policy, marks.as_slice())
     }
 
     /// The verdict on the next policy of the set, in which these texts have marks of direction.

@@ -18,10 +18,12 @@ use std::alloc::{AllocError, Global};
 /// The number of findings of a policy that are put into words.
 const MAX_FINDINGS: usize = 100;
 
-/// What is said of a policy alone; its hints take their examples from this text. Where it is accepted in Strict or in Permissive,
-/// it does not go wrong, and needs the slice of the level alone, if one is asked for; a level that is said is the required one
-/// (clause `right`). It is accepted exactly where its checks, its names, its levels and the texts of its calls have no error, and an
-/// error is listed exactly where it is refused (clause `whole`). Where memory is refused, the answer is an `AllocError`.
+/// The verdict on a policy alone; its hints take their examples from this text. A policy that is
+/// accepted in Strict or in Permissive does not go wrong, and needs the slice of the level alone,
+/// if one is asked for; a level that the verdict names is the required one (clause `right`). The
+/// policy is accepted exactly if its checks, its names, its levels and the texts of its calls have
+/// no error, and an error is listed exactly if it is refused (clause `whole`). If memory is
+/// refused, the answer is an `AllocError`.
 pub fn judge<C: ArgumentCheck>(
     alloc: Global,
     settings: &Settings<'_, C>,
@@ -34,12 +36,11 @@ pub fn judge<C: ArgumentCheck>(
         settings.now.level (template_of policy.now) false) }
 {
     let marks = marked_parts(alloc, policy)?;
-    let verdict = judge_in_set(alloc, settings, text, policy, marks.as_slice(), None)?;
-    Ok(verdict)
+    judge_in_set(alloc, settings, text, policy, marks.as_slice(), None)
 }
 
-/// The verdict on a policy of a set, in which these texts have marks of direction. The policy is refused if an earlier one of
-/// the set has its id, at this position of the text.
+/// The verdict on a policy of a set, in which these texts have marks of direction. The policy is
+/// refused if an earlier one of the set has its id, at this position of the text.
 pub(crate) fn judge_in_set<C: ArgumentCheck>(
     alloc: Global,
     settings: &Settings<'_, C>,

@@ -9,7 +9,7 @@ use cedar_types::base::{ArgumentCheck, Template, ValidationError, ValidationWarn
 use std::alloc::{AllocError, Global};
 use std::collections::BTreeMap;
 
-/// The parts that make a policy impossible, unless it is so because of its errors.
+/// The parts that make a policy impossible; none if it is impossible because of its errors.
 pub fn find_false_parts<C: ArgumentCheck>(
     alloc: Global,
     settings: &Settings<'_, C>,
@@ -25,7 +25,8 @@ pub fn find_false_parts<C: ArgumentCheck>(
     Ok(Vec::new(alloc))
 }
 
-/// The causes of warnings: those that do not follow from errors, and the texts that may be read as others.
+/// The causes of warnings: those that do not follow from errors, and the texts that may be read as
+/// others.
 pub fn warning_causes<'a>(
     alloc: Global,
     found: &'a Findings,
@@ -39,7 +40,8 @@ pub fn warning_causes<'a>(
     Ok(causes)
 }
 
-/// Adds the warnings that do not follow from errors. An impossible policy gets one at each part that is false.
+/// Adds the warnings that do not follow from errors. An impossible policy gets one at each part
+/// that is false.
 fn add_warnings<'a>(
     found: &'a Findings,
     parts: &'a [FalsePart],
@@ -84,8 +86,9 @@ fn add_marks(
     Ok(())
 }
 
-/// Whether a warning follows from a name that the schema does not declare: no entity is of an undeclared type, and no action
-/// fits a scope that names one, so the warning would only repeat the error.
+/// Whether a warning follows from a name that the schema does not declare: no entity is of an
+/// undeclared type, and no action fits a scope that names one, so the warning would only repeat the
+/// error.
 fn follows(
     warning: &ValidationWarning,
     errors: &BTreeMap<ValidationError, Environments>,

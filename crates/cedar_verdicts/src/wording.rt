@@ -1,4 +1,4 @@
-// Which findings of a policy are put into words, and these.
+// Wording of findings of a policy: the first ones, put into words.
 ghost use Rattle.std.specs.Prelude.{◌≡◌, ◌<◌, length, IfOk, OnOk};
 
 use crate::causes::{Cause, Found, types_shown};
@@ -168,8 +168,8 @@ fn types_of(alloc: Global, errors: &[Found<'_>]) -> Result<Vec<String>, AllocErr
     Ok(types)
 }
 
-/// The environments of a mistake. A false part lists its environments whatever their number, because an impossible policy may
-/// apply in none.
+/// The environments of a mistake. A false part lists its environments whatever their number,
+/// because an impossible policy may apply in none.
 fn environments_of(
     alloc: Global,
     applicable: u64,

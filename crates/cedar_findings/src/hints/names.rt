@@ -4,8 +4,8 @@ use cedar_types::base::{EntityType, EntityUID, ValidatorEntityTypeKind, Validato
 use std::alloc::{AllocError, Global};
 use std::rc::RcStr;
 
-/// The number of ids of an enumerated type that are listed.
-const MAX_LISTED: usize = 5;
+/// The most ids of an enumerated type that are listed: few, so that the hint stays in one line.
+const MAX_IDS_LISTED: usize = 5;
 
 /// The declared type with the nearest name, in any namespace.
 pub fn hint_for_type(
@@ -94,14 +94,14 @@ pub fn hint_for_id(
 fn list_ids(alloc: Global, ids: &[RcStr]) -> Result<String, AllocError> {
     let mut hint = String::from_str(alloc, "there are ")?;
     let mut is_first = true;
-    for id in ids.iter().take(MAX_LISTED) {
+    for id in ids.iter().take(MAX_IDS_LISTED) {
         if !is_first {
             hint.push_str(", ")?;
         }
         is_first = false;
         write!(hint, "`{id}`")?;
     }
-    let others = ids.len().saturating_sub(MAX_LISTED);
+    let others = ids.len().saturating_sub(MAX_IDS_LISTED);
     if others > 0 {
         write!(hint, " and {others} more")?;
     }

@@ -3,6 +3,7 @@ use crate::calls::lines::{Probe, Trial};
 use crate::outcomes::{Outcome, finish};
 use crate::refusals::refuse;
 use crate::samples::texts::policy;
+use cedar_typechecker::survey::Environments;
 use cedar_types::base::ValidationMode;
 use cedar_types::types::request_env::RequestEnv;
 use std::alloc::{AllocError, Global};
@@ -16,6 +17,8 @@ pub enum OfEnvironment {
     Action,
     Resource,
     Context,
+    /// `Environments::add`, to none.
+    Added,
 }
 
 /// The environment, and the question about it.
@@ -50,8 +53,16 @@ impl OfEnvironment {
             OfEnvironment::Action => finish(alloc, env.action_type(alloc, schema), &env),
             OfEnvironment::Resource => finish(alloc, env.resource_type(alloc), &env),
             OfEnvironment::Context => finish(alloc, env.context_type(alloc), &env),
+            OfEnvironment::Added => finish(alloc, alone(alloc, &env), &env),
         }
     }
+}
+
+/// An environment alone, counted and listed.
+fn alone(alloc: Global, env: &RequestEnv<'_>) -> Result<Environments, AllocError> {
+    let mut environments = Environments::none(alloc);
+    environments.add(alloc, env)?;
+    Ok(environments)
 }
 
 impl Probe for Asked {
@@ -70,7 +81,7 @@ impl Probe for Asked {
 }
 
 /// Questions about environments.
-pub const ENVIRONMENTS: [(Asked, &str); 12] = [
+pub const ENVIRONMENTS: [(Asked, &str); 14] = [
     (
         Asked::OfDeclared(OfEnvironment::Principal),
         "RequestEnv::principal_type | User",
@@ -118,5 +129,13 @@ pub const ENVIRONMENTS: [(Asked, &str); 12] = [
     (
         Asked::OfUndeclared(OfEnvironment::Resource),
         "- RequestEnv::resource_type, undeclared | AnyEntity",
+    ),
+    (
+        Asked::OfDeclared(OfEnvironment::Added),
+        "Environments::add | count: 1",
+    ),
+    (
+        Asked::OfUndeclared(OfEnvironment::Added),
+        "Environments::add, undeclared | request: None",
     ),
 ];

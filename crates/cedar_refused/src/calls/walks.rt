@@ -15,7 +15,8 @@ pub trait Steps: Drop {
     fn step(&mut self) -> Option<Result<Self::Item, AllocError>>;
 }
 
-/// Takes items, for which there is room, until one is refused or none is left. The answer is true if none is left.
+/// Takes items, for which there is room, until one is refused or none is left. The answer is true
+/// if none is left.
 fn take_all<S: Steps>(steps: &mut S, items: &mut Vec<S::Item>) -> bool {
     for _ in 0..MOST {
         let item = match steps.step() {
@@ -40,8 +41,8 @@ pub fn walk_all<S: Steps>(alloc: Global, mut steps: S) -> Result<Vec<String>, Al
     }
 }
 
-/// A walk while the growth of this number is refused. Items are looked at after the walk is dropped. Behind its end the walk
-/// must give nothing, three times.
+/// A walk while the growth of this number is refused. Items are looked at after the walk is
+/// dropped. Behind its end the walk must give nothing, three times.
 fn refuse_walk<S: Steps>(
     alloc: Global,
     mut steps: S,
@@ -70,8 +71,8 @@ fn refuse_walk<S: Steps>(
     )
 }
 
-/// One walk with ample memory, one while a growth is refused, and again one with ample memory. The caller makes them, because
-/// the borrow checker does not cover a closure that does.
+/// One walk with ample memory, one while a growth is refused, and another with ample memory. The
+/// caller makes them, because the borrow checker does not cover a closure that does.
 pub fn attempt_walk<S: Steps>(
     alloc: Global,
     walks: (S, S, S),

@@ -40,7 +40,7 @@ pub fn warnings(alloc: Global, count: usize) -> Result<HashSet<ValidationWarning
     findings(alloc, count, ValidationWarning::impossible_policy)
 }
 
-/// The first of many findings: a string where a Long is expected.
+/// The first of many findings: a string in place of a Long.
 pub fn first_finding(alloc: Global) -> Result<ValidationError, AllocError> {
     let policy = PolicyID::from_string(alloc, "policy0")?;
     let expected = types_in_order(alloc, vec![in alloc; CedarType::primitive_long()]?)?;

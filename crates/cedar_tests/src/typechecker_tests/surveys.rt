@@ -9,7 +9,8 @@ use cedar_typechecker::base::{
     Template, ValidationMode, ValidatorSchema, Var,
 };
 use cedar_typechecker::rbac::Validator;
-use cedar_typechecker::survey::Survey;
+use cedar_typechecker::survey::{Environments, MAX_ENVIRONMENTS_LISTED, Survey};
+use cedar_types::types::request_env::RequestEnv;
 use std::alloc::{AllocError, Global};
 use std::process::Abort;
 use std::test::Fail;
@@ -72,7 +73,32 @@ fn an_error_has_its_environments(rt: HostRuntime) -> Result<(), Fail> {
     Ok(())
 }
 
-/// `permit(PRINCIPAL, action == Action::"ACTION", resource) when { principal.bool };`, surveyed by a schema.
+#[test]
+fn each_environment_counts_and_the_first_are_listed(rt: HostRuntime) -> Result<(), Fail> {
+    let alloc = rt.alloc();
+    let schema = users_and_photos(alloc)?;
+    let mut environments = Environments::none(alloc);
+    for env in schema.unlinked_request_envs(ValidationMode::Strict) {
+        environments.add(alloc, &env)?;
+    }
+    assert_eq!(rt; environments.count, 1);
+    for _ in 0..MAX_ENVIRONMENTS_LISTED {
+        environments.add(alloc, &RequestEnv::UndeclaredAction)?;
+    }
+    assert_eq!(rt; environments.count, 6);
+    assert_eq!(rt; environments.listed.len(), MAX_ENVIRONMENTS_LISTED);
+    let mut declared: usize = 0;
+    for environment in &environments.listed {
+        if environment.request.is_some() {
+            declared = declared.saturating_add(1);
+        }
+    }
+    assert_eq!(rt; declared, 1);
+    Ok(())
+}
+
+/// `permit(PRINCIPAL, action == Action::"ACTION", resource) when { principal.bool };`, surveyed by
+/// a schema.
 fn survey_about(
     alloc: Global,
     schema: ValidatorSchema,
@@ -92,7 +118,8 @@ fn in_alice(alloc: Global) -> Result<PrincipalConstraint, AllocError> {
     Ok(PrincipalConstraint::is_in(uid(alloc, "User", "alice")?))
 }
 
-/// The same of principals in alice, where users and robots view, edit and print.
+/// Surveys `permit` of principals in alice, by the schema in which users and robots view, edit and
+/// print.
 fn survey_of_action(alloc: Global, action: &str) -> Result<Survey, Fail> {
     survey_about(alloc, users_and_robots(alloc)?, in_alice(alloc)?, action)
 }

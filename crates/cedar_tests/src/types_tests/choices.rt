@@ -4,7 +4,7 @@ use std::alloc::{AllocError, Global};
 use std::rc::RcStr;
 use std::test::Fail;
 
-/// These ids.
+/// The ids of these texts.
 fn ids(alloc: Global, texts: &[&str]) -> Result<Vec<RcStr>, AllocError> {
     let mut ids = Vec::new(alloc);
     for text in texts {

@@ -84,7 +84,8 @@ fn tell<T: Entry + Drop>(
     Ok(())
 }
 
-/// Adds the capabilities of the left set, then their union, their intersection, and a copy of the left.
+/// Adds the capabilities of the left set, then their union, their intersection, and a copy of the
+/// left.
 fn tell_each<T: Entry + Drop>(
     alloc: Global,
     told: &mut Vec<bool>,
@@ -181,7 +182,7 @@ fn answer_alike<T: Entry + Drop, U: Entry + Drop>(
     Ok(is_told(alloc, colliding, (left, right), &wanted)? && is_so)
 }
 
-/// Whether both kinds of entries do so for all ways to pick two sets of the five.
+/// Whether both kinds of entries give the right answers for all pairs of sets of the five.
 fn all_answer_alike<T: Entry + Drop, U: Entry + Drop>(
     alloc: Global,
     all: &Vec<T>,
@@ -194,7 +195,8 @@ fn all_answer_alike<T: Entry + Drop, U: Entry + Drop>(
     Ok(is_so)
 }
 
-/// Whether the capabilities of these two expressions, and those with one digest, give the right answers.
+/// Whether the capabilities of these two expressions, and those with one digest, give the right
+/// answers.
 fn capabilities_answer_alike<'a>(
     alloc: Global,
     (principal, resource): (&'a Expr, &'a Expr),

@@ -28,8 +28,8 @@ const FIELDS: [Field; 6] = [
     Field::Flag,
 ];
 
-/// The fields of each kind beside its place and its policy, and its message: `FIRST` and `SECOND` stand for the fields, and
-/// `ID` for the second as an id is shown.
+/// The fields of each kind beside its place and its policy, and its message: `FIRST` and `SECOND`
+/// stand for the fields, and `ID` for the second as an id is shown.
 pub const KINDS: [(Kind, &[Field], &str); 17] = [
     (
         Kind::UnrecognizedEntityType,
@@ -168,7 +168,7 @@ fn is_said<T: Eq + Hash + Drop>(
     Ok(are_equal == are_one && set.contains(other) == are_one)
 }
 
-/// Whether the order of errors tells it rightly too, from both sides.
+/// Whether the order of errors tells rightly, from both sides, if two values are one.
 fn is_told(
     alloc: Global,
     one: ValidationError,
@@ -192,7 +192,8 @@ fn is_made(
     is_told(alloc, error(alloc, kind, fields)?, other, are_one)
 }
 
-/// Whether errors of a kind that differ in one field are one finding exactly if the kind does not have the field.
+/// Whether errors of a kind that differ in one field are one finding exactly if the kind does not
+/// have the field.
 fn fields_count(alloc: Global, kind: Kind, own: &[Field]) -> Result<bool, AllocError> {
     let plain = error(alloc, kind, PLAIN)?;
     let mut is_so = is_made(alloc, kind, PLAIN, &plain, true)?;
@@ -241,8 +242,8 @@ pub fn impossible(alloc: Global, fields: Fields<'_>) -> Result<ValidationWarning
     Ok(ValidationWarning::impossible_policy(place(fields.place), id))
 }
 
-/// Whether the message about an action differs from the one with another value of this field, and from the message about a
-/// policy.
+/// Whether the message about an action differs from the one with another value of this field, and
+/// from the message about a policy.
 fn is_told_of_actions(alloc: Global, field: Field) -> Result<bool, AllocError> {
     let plain = application_warning(alloc, PLAIN)?;
     let are_one = !counts(field, &[Field::Number, Field::Flag]);
@@ -282,7 +283,8 @@ fn unknown(
     Ok(ValidationError::unrecognized_action_id(loc, policy(alloc)?, id))
 }
 
-/// Whether two errors are one finding, by equality and by order, if their ids stand at these places.
+/// Whether two errors are one finding, by equality and by order, if their ids stand at these
+/// places.
 fn are_one_at(alloc: Global, here: Option<Loc>, there: Option<Loc>) -> Result<bool, AllocError> {
     let error = unknown(alloc, place(1), here)?;
     let same = unknown(alloc, place(1), there)?;

@@ -62,7 +62,7 @@ fn context(flag: bool) -> LubContext {
     }
 }
 
-/// The error that an entity of the second name stands where one of the first is expected.
+/// The error that an entity of the second name stands at a place that expects one of the first.
 fn unexpected_type(
     alloc: Global,
     fields: Fields<'_>,

@@ -1,4 +1,5 @@
--- The environments of a template: each is of a declared action, except that of undeclared ones, and has the links of its slots.
+-- The environments of a template: each is of a declared action, except that of undeclared ones, and
+-- has the links of its slots.
 use Rattle.std.proofs.Common.{◌≡◌, Bool, true, false, true≢false, List, [], ◌∷◌, ◌++◌, map, Option, Some, None, is_some, inl, inr, refl, sym, ◌∙◌, ap, subst}
 use Rattle.cedar_types.specs.declared.base.names.slots.SlotId.{SlotId}
 use Rattle.cedar_types.specs.declared.base.types.ValidationMode.{ValidationMode}
@@ -50,7 +51,8 @@ module _ (s : Schema) (t : PlainTemplate) where
     pub all_ways : (e : Env) → IsOneOf e (in_all_ways d ps rs) → P e
     all_ways = all_flat (λ p. map (λ r. Declared d p r) rs) P ps (λ p k. all_mapped P (λ r. Declared d p r) rs (λ r i. h p r k i))
 
-  -- what holds of each environment of a declared one with its links
+  -- a property holds of each checked environment, if it holds of Undeclared and of each environment
+  -- of a declared one with its links
   each_checked : (P : Env → Type 0) → P Undeclared → (m : ValidationMode)
       → ((d : DeclaredEnv) (p r : Option Path) → IsOneOf d (environments_of s.actions)
       → IsOneOf p (slot_links (has_slot SlotId.Principal t) s.types t.principal d.principal)
@@ -117,7 +119,7 @@ equal_is_linked s t d p r h e =
     equal_link (has_slot SlotId.Principal t) (named_occurs t e) s.types d.principal p
     (subst (λ c. IsOneOf p (slot_links (has_slot SlotId.Principal t) s.types c d.principal)) e h.0)
 
--- ---- what the scope leaves out
+-- ---- environments that the scope leaves out
 
 pub left_out : (s : Schema) (t : PlainTemplate) (us : List Uid) → Admits s.actions t.action us → (e : Env) → IsOfDeclared s e
     → is_left_out_by us e ≡ true → IsLeftOut s t e

@@ -1,4 +1,4 @@
--- Variables, and what the scope's tests compare with them, demand nothing.
+-- Variables, and the expressions that the scope's tests compare with them, demand nothing.
 use Rattle.std.proofs.Common.{◌≡◌, ℕ, true, List, refl}
 use Rattle.cedar_types.specs.Expressions.Tree.{lit, var, slot, set_of, Trees, no_trees, tree}
 use Rattle.cedar_typing.specs.Representatives.{are_leaves, is_reference, is_variable}

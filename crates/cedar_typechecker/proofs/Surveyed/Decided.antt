@@ -81,7 +81,7 @@ module _ {C : Type 0} (meaning : C → Refusals) (c : RequestEnvChecks C) (d : D
   abbrev all : List Env
   all = checked_envs b.schema b.mode t
 
-  -- what is left out of some environments, and of all
+  -- the survey takes in the environments that are left out, of some environments and of all
   module _ (old new : Survey) (same : IsSameBeside old new) (asked : Bool)
       (adds : Adds (demands_of old.demands.keys) (demands_if asked t) (demands_of new.demands.keys)) where
     pub takes_left : (es : List Env) → es ≡ left → asked ≡ list_any (asks_of d) es
@@ -101,7 +101,8 @@ module _ {C : Type 0} (meaning : C → Refusals) (c : RequestEnvChecks C) (d : D
   takes_kept_and_left old mid new f g =
       takes_moved b t old new _ left (both_parts (admitted_by d) left) (takes_both b t old mid new _ _ f g)
 
-  -- a policy without slots: the declarations of the admitted actions, undeclared actions, and what is left out
+  -- the survey of a policy without slots takes in the declarations of the admitted actions,
+  -- undeclared actions, and the environments that are left out
   pub takes_declared : (first : Env) → IsOneOf first left → has_links first ≡ false → has_repeat uid_eq (admitted_by d) ≡ false
       → (old one two new : Survey)
       → TakesIn b t old one (flat_map (envs_named (schema_of d.schema.now).actions) (admitted_by d))

@@ -1,5 +1,5 @@
--- The environments of a policy without slots: those of the admitted actions, action by action, that of undeclared actions, and those
--- that are left out.
+-- The environments of a policy without slots: those of the admitted actions, action by action, that
+-- of undeclared actions, and those that are left out.
 use Rattle.std.proofs.Common.{◌≡◌, Bool, true, false, ◌&&◌, ◌||◌, not, cond, if◌then◌else◌, List, [], ◌∷◌, ◌++◌, append_assoc, map, filter, Option, Some, None, inl, inr, refl, sym, ◌∙◌, ap, subst}
 use Rattle.std.specs.List.{list_any, flat_map}
 use Rattle.std.specs.Prelude.{IsPermutation}
@@ -209,7 +209,7 @@ module _ (s : Schema) (m : ValidationMode) (t : PlainTemplate) (no_principal : h
         IsPermutation-trans _ _ _ (same_order _ _ parts)
         (IsPermutation-append_left (undeclared_envs (is_partial m)) _ _ (all_named s.actions named us apart))
 
-    -- what is taken in by declarations, and what is left out, are all
+    -- the environments taken in by declarations, and those left out, are all
     pub parted : IsPermutation ((admitted ++ undeclared_envs (is_partial m)) ++ filter (is_left_out_by us) (checked_envs s m t)) (checked_envs s m t)
     parted =
         IsPermutation-trans _ _ _ (IsPermutation-append_left (filter (is_left_out_by us) (checked_envs s m t)) _ _ (IsPermutation-sym _ _ kept_checked))

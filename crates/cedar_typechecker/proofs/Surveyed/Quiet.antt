@@ -1,4 +1,5 @@
--- A survey takes in environments whose checks are irrelevant without an error: all that it may gain is the demand of an `in`.
+-- A survey takes in environments whose checks are irrelevant without an error: all that it may gain
+-- is the demand of an `in`.
 use Rattle.std.proofs.Common.{◌≡◌, ◌↔◌, Bool, List, [], ◌∷◌, ◌++◌, map, length, filter, ◌⊎◌, inl, inr, refl, sym, ◌∙◌, ap, subst}
 use Rattle.std.specs.BTreeMap.{BTreeMap, get, keys}
 use Rattle.std.specs.List.{list_any}
@@ -26,7 +27,7 @@ use Rattle.cedar_typechecker.specs.Surveyed.{TakesIn}
 use Rattle.cedar_typechecker.specs.Surveys.{surroundings_at, IsDemandInSome, may_apply, some_fails_silently, Surveys}
 use Rattle.cedar_typechecker.proofs.LeftOut.Asked.{of_either, joined}
 
--- what is left of a survey beside its demands
+-- two surveys agree in all fields beside their demands
 pub record IsSameBeside (old new : Survey) : Type 0 where
   pub errors : new.errors ≡ old.errors
   pub passes : new.passes ≡ old.passes

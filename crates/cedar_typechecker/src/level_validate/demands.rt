@@ -1,10 +1,12 @@
-// Demands of typed conditions on levels, which do not depend on the maximum.
-ghost use Rattle.std.specs.Prelude.{◌≡◌, IfOk, OnOk};
-ghost use Rattle.cedar_typechecker.specs.Levels.Demands.{Need, demands};
-ghost use Rattle.cedar_typechecker.specs.Levels.Views.{need_of, demands_of};
+// Demands of typed conditions on levels, which do not depend on the maximum, and the errors of those that a maximum does not meet.
+ghost use Rattle.std.specs.Prelude.{◌≡◌, IfOk};
+ghost use Rattle.cedar_types.specs.Errors.{finding_of};
+ghost use Rattle.cedar_types.specs.Names.{text_of};
+ghost use Rattle.cedar_typechecker.specs.Levels.Demands.{told_of};
+ghost use Rattle.cedar_typechecker.specs.Levels.Errors.{exceeds, reported};
+ghost use Rattle.cedar_typechecker.specs.Levels.Views.{demand_of, findings_if_any};
 
-use crate::level_validate::walk::LevelWalk;
-use cedar_types::base::Loc;
+use cedar_types::base::{EntityDerefLevel, Loc, PolicyID, ValidationError};
 use std::alloc::AllocError;
 
 /// The need of a node.
@@ -27,41 +29,57 @@ pub(crate) struct Demand {
     pub hidden_below: u64,
 }
 
-impl LevelWalk<'_> {
-    /// Adds the demand of this need at `loc`.
-    pub(crate) fn demand(
+impl Demand {
+    /// The error of this demand at a maximum, if the maximum does not meet it, and no other error stands for it.
+    pub(crate) fn error_at(
         &self,
-        loc: Option<Loc>,
-        need: Need,
-        found: &mut Vec<Demand>,
-    ) -> Result<(), AllocError>
-        ensures { OnOk result (
-            demands loc (need_of need) self.now.hidden_below (demands_of found.old.items)
-            ≡ demands_of found.new.items) }
+        maximum: u32,
+        policy_id: &PolicyID,
+    ) -> Result<Option<ValidationError>, AllocError>
+        ensures { IfOk result (λ error. findings_if_any error
+            ≡ told_of (text_of policy_id.now.text) maximum (demand_of self.now)) }
     {
-        found.push(Demand {
-            loc,
-            need,
-            hidden_below: self.hidden_below,
-        })?;
-        Ok(())
+        if u64::from(maximum) < self.hidden_below {
+            return Ok(None);
+        }
+        match self.need {
+            Need::Level(level) => {
+                if level <= u64::from(maximum) {
+                    return Ok(None);
+                }
+                let id = policy_id.clone()?;
+                Ok(Some(exceeded(self.loc, id, maximum, level)))
+            }
+            Need::NoLiteral => {
+                let id = policy_id.clone()?;
+                Ok(Some(ValidationError::literal_dereference_target(self.loc, id)))
+            }
+            Need::Rule => {
+                let id = policy_id.clone()?;
+                Ok(Some(ValidationError::internal_invariant_violation(self.loc, id)))
+            }
+        }
     }
+}
 
-    /// Adds the demand of a target for which no level is enough, and answers the target's level, 0. It needs no literal if it
-    /// is one entity in all requests, as an entity literal or a slot is; it needs a rule if no typed condition that passes
-    /// has it.
-    pub(crate) fn refused_target(
-        &self,
-        loc: Option<Loc>,
-        need: Need,
-        found: &mut Vec<Demand>,
-    ) -> Result<u64, AllocError>
-        ensures level { IfOk result (λ k. k ≡ 0) }
-        ensures demands { OnOk result (
-            demands loc (need_of need) self.now.hidden_below (demands_of found.old.items)
-            ≡ demands_of found.new.items) }
-    {
-        self.demand(loc, need, found)?;
-        Ok(0)
+/// The error that this level is required, which is above the maximum.
+fn exceeded(loc: Option<Loc>, id: PolicyID, maximum: u32, level: u64) -> ValidationError
+    ensures { finding_of result
+        ≡ record { place = loc; policy = text_of id.text; fault = exceeds maximum level } }
+{
+    let allowed = EntityDerefLevel { level: maximum };
+    let required = EntityDerefLevel {
+        level: reported(level),
+    };
+    ValidationError::maximum_level_exceeded(loc, id, allowed, required)
+}
+
+/// A level as an error reports it: at most the greatest number of 32 bits.
+fn reported(level: u64) -> u32
+    ensures { result ≡ reported level }
+{
+    match u32::try_from(level) {
+        Ok(level) => level,
+        Err(_) => u32::MAX,
     }
 }

@@ -1,12 +1,13 @@
 // The walk over the targets of a typed condition, whose values are entities that are dereferenced.
-ghost use Rattle.std.specs.Prelude.{◌≡◌, [], ◌∷◌, max, option_map, IfOk, OnOk, if◌then◌else◌};
+ghost use Rattle.std.specs.Prelude.{◌≡◌, option_map, IfOk, OnOk, if◌then◌else◌};
 ghost use Rattle.cedar_types.specs.Names.{text_of, uid_of, text_eq, uid_eq};
 ghost use Rattle.cedar_types.specs.Expressions.View.{lit_of};
-ghost use Rattle.cedar_typing.specs.TypedExpr.{typed_tree, annotation};
-ghost use Rattle.cedar_typechecker.specs.Levels.Chains.{is_get_tag, good_leaf, literal_leaf, entity_leaf, leaf_of_literal, base_of};
-ghost use Rattle.cedar_typechecker.specs.Levels.Demands.{a_rule, demands, at_leaf, counted_level, counted_at_key, add_target_demands, add_demands_along, has_key, raised, by_base, on_path};
+ghost use Rattle.cedar_typing.specs.TypedExpr.{typed_tree};
+ghost use Rattle.cedar_typechecker.specs.Levels.Chains.{is_get_tag, good_leaf, literal_leaf, entity_leaf};
+ghost use Rattle.cedar_typechecker.specs.Levels.Demands.{counted_level, counted_at_key, has_key};
 ghost use Rattle.cedar_typechecker.specs.Levels.Paths.{keys_along};
-ghost use Rattle.cedar_typechecker.specs.Levels.Views.{surroundings_of, demands_of, typed_fields};
+ghost use Rattle.cedar_typechecker.specs.Levels.Steps.{Adds, of_target, of_access_target, access_level, of_record_target, record_level, of_followed, of_literal_target, of_need};
+ghost use Rattle.cedar_typechecker.specs.Levels.Views.{need_of, typed_fields};
 
 use crate::level_validate::bases::{Base, base_of, is_constant};
 use crate::level_validate::demands::{Demand, Need};
@@ -29,10 +30,9 @@ impl LevelWalk<'_> {
     ) -> Result<u64, AllocError>
         ensures level { IfOk result (λ k. k
             ≡ counted_level (typed_tree e.now) (keys_along path.entry)) }
-        ensures demands { OnOk result (
-            add_target_demands (surroundings_of self.now) (typed_tree e.now) (keys_along path.entry)
-            self.now.hidden_below (demands_of found.old.items)
-            ≡ demands_of found.new.items) }
+        ensures demands { OnOk result
+            (Adds (of_target self.now (typed_tree e.now) (keys_along path.entry))
+            found.old.items found.new.items) }
     {
         match &e.kind {
             // a request has the ids of its entities, so nothing is dereferenced to get them
@@ -89,18 +89,11 @@ impl LevelWalk<'_> {
         found: &mut Vec<Demand>,
     ) -> Result<u64, AllocError>
         ensures level { IfOk result (λ k. k
-            ≡ by_base (base_of (annotation (typed_tree base.now)))
-            (raised (counted_level (typed_tree base.now) (keys_along path.entry)) 1)
-            (counted_level (typed_tree base.now) (text_of attr.now ∷ keys_along path.entry)) 0) }
-        ensures demands { OnOk result (
-            by_base (base_of (annotation (typed_tree base.now)))
-            (add_target_demands (surroundings_of self.now) (typed_tree base.now)
-            (keys_along path.entry) self.now.hidden_below (demands_of found.old.items))
-            (add_target_demands (surroundings_of self.now) (typed_tree base.now)
-            (text_of attr.now ∷ keys_along path.entry) self.now.hidden_below
-            (demands_of found.old.items))
-            (demands loc a_rule self.now.hidden_below (demands_of found.old.items))
-            ≡ demands_of found.new.items) }
+            ≡ access_level (typed_tree base.now) (text_of attr.now) (keys_along path.entry)) }
+        ensures demands { OnOk result (Adds
+            (of_access_target self.now loc (typed_tree base.now) (text_of attr.now)
+            (keys_along path.entry))
+            found.old.items found.new.items) }
     {
         match base_of(base) {
             Base::Entity => {
@@ -124,17 +117,11 @@ impl LevelWalk<'_> {
         found: &mut Vec<Demand>,
     ) -> Result<u64, AllocError>
         ensures level { IfOk result (λ k. k
-            ≡ on_path (keys_along path.entry) 0
-            (λ p rest. if has_key p (typed_fields fields.now.entries)
-            then counted_at_key (typed_fields fields.now.entries) p rest else 0)) }
-        ensures demands { OnOk result (
-            on_path (keys_along path.entry)
-            (demands loc a_rule self.now.hidden_below (demands_of found.old.items))
-            (λ p rest. if has_key p (typed_fields fields.now.entries)
-            then add_demands_along (surroundings_of self.now) (typed_fields fields.now.entries) p rest
-            self.now.hidden_below (demands_of found.old.items)
-            else demands loc a_rule self.now.hidden_below (demands_of found.old.items))
-            ≡ demands_of found.new.items) }
+            ≡ record_level (typed_fields fields.now.entries) (keys_along path.entry)) }
+        ensures demands { OnOk result (Adds
+            (of_record_target self.now loc (typed_fields fields.now.entries)
+            (keys_along path.entry))
+            found.old.items found.new.items) }
     {
         let Some((key, rest)) = split(path) else {
             return self.refused_target(loc, Need::Rule, found);
@@ -156,11 +143,10 @@ impl LevelWalk<'_> {
         ensures level { IfOk result (λ k. k
             ≡ counted_at_key (typed_fields fields.now.entries) (text_of key.now)
             (keys_along rest.entry)) }
-        ensures demands { OnOk result (
-            add_demands_along (surroundings_of self.now) (typed_fields fields.now.entries)
-            (text_of key.now) (keys_along rest.entry) self.now.hidden_below
-            (demands_of found.old.items)
-            ≡ demands_of found.new.items) }
+        ensures demands { OnOk result (Adds
+            (of_followed self.now (typed_fields fields.now.entries) (text_of key.now)
+            (keys_along rest.entry))
+            found.old.items found.new.items) }
     {
         let mut level = None;
         for (own, value) in fields.iter() {
@@ -182,12 +168,8 @@ impl LevelWalk<'_> {
         found: &mut Vec<Demand>,
     ) -> Result<u64, AllocError>
         ensures level { IfOk result (λ k. k ≡ 0) }
-        ensures demands { OnOk result (
-            at_leaf loc
-            (leaf_of_literal (option_map (λ u. uid_of u.now) self.now.action)
-            (lit_of literal.now))
-            self.now.hidden_below (demands_of found.old.items)
-            ≡ demands_of found.new.items) }
+        ensures demands { OnOk result (Adds (of_literal_target self.now loc (lit_of literal.now))
+            found.old.items found.new.items) }
     {
         match literal {
             Literal::EntityUID(uid) => {
@@ -200,6 +182,23 @@ impl LevelWalk<'_> {
             Literal::Long(_) => self.refused_target(loc, Need::Rule, found),
             Literal::String(_) => self.refused_target(loc, Need::Rule, found),
         }
+    }
+
+    /// Adds the demand of a target for which no level is enough, and answers the target's level, 0. It needs no literal if it
+    /// is one entity in all requests, as an entity literal or a slot is; it needs a rule if no typed condition that passes
+    /// has it.
+    pub(crate) fn refused_target(
+        &self,
+        loc: Option<Loc>,
+        need: Need,
+        found: &mut Vec<Demand>,
+    ) -> Result<u64, AllocError>
+        ensures level { IfOk result (λ k. k ≡ 0) }
+        ensures demands { OnOk result (Adds (of_need self.now loc (need_of need))
+            found.old.items found.new.items) }
+    {
+        self.demand(loc, need, found)?;
+        Ok(0)
     }
 
     /// Whether the entity is the environment's own action.

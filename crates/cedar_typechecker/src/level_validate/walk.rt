@@ -1,15 +1,13 @@
 // The walk over the checked parts of a typed condition.
-ghost use Rattle.std.specs.Prelude.{◌≡◌, [], ◌∷◌, map, max, IfOk, OnOk, if◌then◌else◌};
-ghost use Rattle.cedar_types.specs.Schemas.Contents.{schema_of};
+ghost use Rattle.std.specs.Prelude.{◌≡◌, map, max, OnOk};
 ghost use Rattle.cedar_types.specs.Types.{ty_of};
 ghost use Rattle.cedar_types.specs.Expressions.View.{chain_of, trees_of};
-ghost use Rattle.cedar_typing.specs.TypedExpr.{typed_tree, annotation};
-ghost use Rattle.cedar_typechecker.specs.Levels.Chains.{base_of, base_of_type};
-ghost use Rattle.cedar_typechecker.specs.Levels.Costs.{chain_cost, keys_to_entity};
-ghost use Rattle.cedar_typechecker.specs.Levels.Demands.{this_level, a_rule, demands, counted_level, add_demands, add_all_demands, add_field_demands, add_target_demands, raised, by_base, add_demands_of_chain, add_chain_demands};
+ghost use Rattle.cedar_typing.specs.TypedExpr.{typed_tree};
+ghost use Rattle.cedar_typechecker.specs.Levels.Demands.{add_all_demands, add_field_demands};
 ghost use Rattle.cedar_typechecker.specs.Levels.Dereferences.{accesses_first};
 ghost use Rattle.cedar_typechecker.specs.Levels.Paths.{keys_along};
-ghost use Rattle.cedar_typechecker.specs.Levels.Views.{surroundings_of, demands_of, typed_fields};
+ghost use Rattle.cedar_typechecker.specs.Levels.Steps.{Adds, of_checked, of_first, of_access, of_chain, of_typed_chain, of_reached, of_need};
+ghost use Rattle.cedar_typechecker.specs.Levels.Views.{need_of, surroundings_of, typed_fields};
 
 use crate::level_validate::bases::{Base, base_of, base_of_type, is_constant};
 use crate::level_validate::costs::{chain_cost, keys_to_entity};
@@ -41,10 +39,8 @@ impl LevelWalk<'_> {
         e: &Expr<Option<CedarType>>,
         found: &mut Vec<Demand>,
     ) -> Result<(), AllocError>
-        ensures { OnOk result (
-            add_demands (surroundings_of self.now) (typed_tree e.now) self.now.hidden_below
-            (demands_of found.old.items)
-            ≡ demands_of found.new.items) }
+        ensures { OnOk result (Adds (of_checked self.now (typed_tree e.now))
+            found.old.items found.new.items) }
     {
         match &e.kind {
             ExprKind::Lit(_) => Ok(()),
@@ -95,10 +91,9 @@ impl LevelWalk<'_> {
         exprs: &Vec<Expr<Option<CedarType>>>,
         found: &mut Vec<Demand>,
     ) -> Result<(), AllocError>
-        ensures { OnOk result (
-            add_all_demands (surroundings_of self.now) (trees_of (map typed_tree exprs.now.items))
-            self.now.hidden_below (demands_of found.old.items)
-            ≡ demands_of found.new.items) }
+        ensures { OnOk result (Adds (add_all_demands (surroundings_of self.now)
+            (trees_of (map typed_tree exprs.now.items)) self.now.hidden_below)
+            found.old.items found.new.items) }
     {
         for e in exprs {
             self.check(e, found)?;
@@ -112,10 +107,9 @@ impl LevelWalk<'_> {
         fields: &BTreeMap<RcStr, Expr<Option<CedarType>>>,
         found: &mut Vec<Demand>,
     ) -> Result<(), AllocError>
-        ensures { OnOk result (
-            add_field_demands (surroundings_of self.now) (typed_fields fields.now.entries)
-            self.now.hidden_below (demands_of found.old.items)
-            ≡ demands_of found.new.items) }
+        ensures { OnOk result (Adds (add_field_demands (surroundings_of self.now)
+            (typed_fields fields.now.entries) self.now.hidden_below)
+            found.old.items found.new.items) }
     {
         for (_, value) in fields.iter() {
             self.check(value, found)?;
@@ -132,15 +126,8 @@ impl LevelWalk<'_> {
         left: &Expr<Option<CedarType>>,
         found: &mut Vec<Demand>,
     ) -> Result<(), AllocError>
-        ensures { OnOk result (
-            (if accesses_first op
-            then demands loc (this_level (raised (counted_level (typed_tree left.now) []) 1))
-            self.now.hidden_below
-            (add_target_demands (surroundings_of self.now) (typed_tree left.now) []
-            self.now.hidden_below (demands_of found.old.items))
-            else add_demands (surroundings_of self.now) (typed_tree left.now)
-            self.now.hidden_below (demands_of found.old.items))
-            ≡ demands_of found.new.items) }
+        ensures { OnOk result (Adds (of_first self.now loc op (typed_tree left.now))
+            found.old.items found.new.items) }
     {
         if accesses_first(op) {
             return self.check_reach(loc, left, Path::Keys(&[]), 1, found);
@@ -156,16 +143,8 @@ impl LevelWalk<'_> {
         base: &Expr<Option<CedarType>>,
         found: &mut Vec<Demand>,
     ) -> Result<(), AllocError>
-        ensures { OnOk result (
-            by_base (base_of (annotation (typed_tree base.now)))
-            (demands loc (this_level (raised (counted_level (typed_tree base.now) []) 1))
-            self.now.hidden_below
-            (add_target_demands (surroundings_of self.now) (typed_tree base.now) []
-            self.now.hidden_below (demands_of found.old.items)))
-            (add_demands (surroundings_of self.now) (typed_tree base.now) self.now.hidden_below
-            (demands_of found.old.items))
-            (demands loc a_rule self.now.hidden_below (demands_of found.old.items))
-            ≡ demands_of found.new.items) }
+        ensures { OnOk result (Adds (of_access self.now loc (typed_tree base.now))
+            found.old.items found.new.items) }
     {
         match base_of(base) {
             // both `.` and `has` look up the entry of the entity
@@ -185,11 +164,9 @@ impl LevelWalk<'_> {
         chain: &AttrChain,
         found: &mut Vec<Demand>,
     ) -> Result<(), AllocError>
-        ensures { OnOk result (
-            add_demands_of_chain (surroundings_of self.now) loc (typed_tree base.now)
-            (chain_of chain.now).0 (chain_of chain.now).1 self.now.hidden_below
-            (demands_of found.old.items)
-            ≡ demands_of found.new.items) }
+        ensures { OnOk result
+            (Adds (of_chain self.now loc (typed_tree base.now) (chain_of chain.now))
+            found.old.items found.new.items) }
     {
         match &base.annotation {
             None => self.check(base, found),
@@ -206,17 +183,9 @@ impl LevelWalk<'_> {
         chain: &AttrChain,
         found: &mut Vec<Demand>,
     ) -> Result<(), AllocError>
-        ensures { OnOk result (
-            add_chain_demands loc (base_of_type (ty_of ty.now))
-            (chain_cost (schema_of self.now.schema.now) (ty_of ty.now)
-            (chain_of chain.now).0 (chain_of chain.now).1)
-            (keys_to_entity (schema_of self.now.schema.now) (ty_of ty.now)
-            (chain_of chain.now).0 (chain_of chain.now).1)
-            (counted_level (typed_tree base.now))
-            (add_target_demands (surroundings_of self.now) (typed_tree base.now))
-            (add_demands (surroundings_of self.now) (typed_tree base.now))
-            self.now.hidden_below (demands_of found.old.items)
-            ≡ demands_of found.new.items) }
+        ensures { OnOk result (Adds
+            (of_typed_chain self.now loc (typed_tree base.now) (ty_of ty.now) (chain_of chain.now))
+            found.old.items found.new.items) }
     {
         let kind = base_of_type(ty);
         // a chain of several attributes on any other value is an error of typing, so only the base is walked
@@ -250,16 +219,30 @@ impl LevelWalk<'_> {
         cost: u64,
         found: &mut Vec<Demand>,
     ) -> Result<(), AllocError>
-        ensures { OnOk result (
-            demands loc
-            (this_level (raised (counted_level (typed_tree base.now) (keys_along path.entry)) cost))
-            self.now.hidden_below
-            (add_target_demands (surroundings_of self.now) (typed_tree base.now)
-            (keys_along path.entry) self.now.hidden_below (demands_of found.old.items))
-            ≡ demands_of found.new.items) }
+        ensures { OnOk result (Adds
+            (of_reached self.now loc (typed_tree base.now) (keys_along path.entry) cost)
+            found.old.items found.new.items) }
     {
         let level = self.target_level(base, path, found)?;
         self.demand(loc, Need::Level(level.saturating_add(cost)), found)
+    }
+
+    /// Adds the demand of this need at `loc`.
+    pub(crate) fn demand(
+        &self,
+        loc: Option<Loc>,
+        need: Need,
+        found: &mut Vec<Demand>,
+    ) -> Result<(), AllocError>
+        ensures { OnOk result (Adds (of_need self.now loc (need_of need))
+            found.old.items found.new.items) }
+    {
+        found.push(Demand {
+            loc,
+            need,
+            hidden_below: self.hidden_below,
+        })?;
+        Ok(())
     }
 
     /// The walk below an error that stands for all demands there at a maximum below `cost`.

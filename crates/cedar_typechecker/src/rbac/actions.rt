@@ -44,10 +44,7 @@ fn admitted_actions<'b>(
             Ok(actions)
         }
         ActionConstraint::Eq(uid) => declarations(schema, alloc, &[uid]),
-        ActionConstraint::In(uids) => {
-            let within = actions_within(schema, alloc, uids)?;
-            Ok(within)
-        }
+        ActionConstraint::In(uids) => { actions_within(schema, alloc, uids) }
     }
 }
 
@@ -59,7 +56,8 @@ fn actions_within<'b>(
 ) -> Result<Vec<&'b ValidatorActionId>, AllocError>
     ensures { IfOk result (λ v. SameMembers
         (map (λ a. declared_action a.now) v.items)
-        (admitted_actions (schema_of schema.now).actions (within_actions (map placed_uid uids.now)))) }
+        (admitted_actions (schema_of schema.now).actions
+        (within_actions (map placed_uid uids.now)))) }
 {
     let ids = schema.get_actions_in_set(alloc, uids)?;
     match ids {

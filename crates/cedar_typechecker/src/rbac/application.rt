@@ -3,21 +3,20 @@ ghost use Rattle.std.specs.Prelude.{◌≡◌, map, IfOk};
 ghost use Rattle.std.specs.List.{list_any};
 ghost use Rattle.cedar_types.specs.Schemas.Declarations.{application};
 ghost use Rattle.cedar_types.specs.Errors.{warning_of, invalid_action_application};
-ghost use Rattle.cedar_types.specs.Names.{type_of};
 ghost use Rattle.cedar_types.specs.Schemas.Contents.{schema_of};
 ghost use Rattle.cedar_types.specs.Templates.{template_of, scope_of};
 ghost use Rattle.cedar_typechecker.specs.Applications.{fits, AnswersApplication, with_bound_scope};
+ghost use Rattle.cedar_typechecker.specs.Scopes.{admitted_types};
 ghost use Rattle.cedar_typechecker.specs.ValidatorViews.{schema_in};
 
 use crate::rbac::actions::admitted_applications;
-use crate::rbac::entity_types::admitted_types;
+use crate::rbac::admitted::admits_any;
 use crate::rbac::flags::{Side, in_might_help};
 use crate::rbac::linking::{bound_constraint, bound_to};
-use crate::rbac::members::has_any_type;
 use crate::rbac::validator::Validator;
 use cedar_types::base::{
-    ArgumentCheck, EntityType, Policy, PrincipalOrResourceConstraint, SlotId, Template,
-    ValidationWarning, ValidatorApplySpec, ValidatorSchema,
+    ArgumentCheck, Policy, PrincipalOrResourceConstraint, SlotId, Template, ValidationWarning,
+    ValidatorApplySpec, ValidatorSchema,
 };
 use std::alloc::{AllocError, Global};
 
@@ -63,8 +62,7 @@ impl<C: ArgumentCheck> Validator<'_, C> {
             &t.resource_constraint.constraint,
             bound_to(&p.values, SlotId::Resource),
         )?;
-        let answer = application(&self.schema, alloc, t, &principal, &resource)?;
-        Ok(answer)
+        application(&self.schema, alloc, t, &principal, &resource)
     }
 }
 
@@ -83,10 +81,8 @@ fn application(
         })) }
 {
     let listed = admitted_applications(schema, alloc, &t.action_constraint)?;
-    let principals = admitted_types(schema, alloc, principal)?;
-    let resources = admitted_types(schema, alloc, resource)?;
     let applications = listed.as_slice();
-    if has_fitting(applications, principals.as_slice(), resources.as_slice()) {
+    if has_fitting(schema, applications, principal, resource) {
         return Ok(Ok(()));
     }
     // the flags are asked only here, because a scope that fits needs no hint
@@ -117,31 +113,35 @@ fn warning(
     ))
 }
 
-/// Whether one of these applications has a principal type among `principals` and a resource type among `resources`.
+/// Whether one of these applications has a principal type and a resource type that the constraints admit.
 fn has_fitting(
+    schema: &ValidatorSchema,
     applications: &[&ValidatorApplySpec],
-    principals: &[&EntityType],
-    resources: &[&EntityType],
+    principal: &PrincipalOrResourceConstraint,
+    resource: &PrincipalOrResourceConstraint,
 ) -> bool
     ensures { result
         ≡ list_any
-        (fits (map (λ t. type_of t.now) principals.now) (map (λ t. type_of t.now) resources.now))
+        (fits (admitted_types (schema_of schema.now) (scope_of principal.now))
+        (admitted_types (schema_of schema.now) (scope_of resource.now)))
         (map (λ a. application a.now) applications.now) }
 {
     applications
         .iter()
-        .any(|applies_to| fits(applies_to, principals, resources))
+        .any(|applies_to| fits(schema, applies_to, principal, resource))
 }
 
 fn fits(
+    schema: &ValidatorSchema,
     applies_to: &ValidatorApplySpec,
-    principals: &[&EntityType],
-    resources: &[&EntityType],
+    principal: &PrincipalOrResourceConstraint,
+    resource: &PrincipalOrResourceConstraint,
 ) -> bool
     ensures { result
-        ≡ fits (map (λ t. type_of t.now) principals.now) (map (λ t. type_of t.now) resources.now)
+        ≡ fits (admitted_types (schema_of schema.now) (scope_of principal.now))
+        (admitted_types (schema_of schema.now) (scope_of resource.now))
         (application applies_to.now) }
 {
-    has_any_type(&applies_to.principal_apply_spec, principals)
-        && has_any_type(&applies_to.resource_apply_spec, resources)
+    admits_any(schema, principal, &applies_to.principal_apply_spec)
+        && admits_any(schema, resource, &applies_to.resource_apply_spec)
 }

@@ -116,9 +116,10 @@ fn only_if(
 }
 
 /// Whether the type `below` is the type `above`, or is declared as its descendant.
-fn is_within(schema: &ValidatorSchema, above: &EntityType, below: &EntityType) -> bool
+pub(crate) fn is_within(schema: &ValidatorSchema, above: &EntityType, below: &EntityType) -> bool
     ensures { result
-        ≡ is_among (types_within (schema_of schema.now).types (type_of above.now)) (type_of below.now) }
+        ≡ is_among (types_within (schema_of schema.now).types (type_of above.now))
+        (type_of below.now) }
 {
     is_same_type(below, above) || is_declared_below(schema, above, below)
 }

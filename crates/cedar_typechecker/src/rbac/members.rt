@@ -1,5 +1,5 @@
 // Membership in sets of entity types, and in the descendants of a type.
-ghost use Rattle.std.specs.Prelude.{◌≡◌, map};
+ghost use Rattle.std.specs.Prelude.{◌≡◌};
 ghost use Rattle.std.specs.List.{list_any};
 ghost use Rattle.cedar_types.specs.Names.{type_of, path_eq};
 ghost use Rattle.cedar_types.specs.Schemas.Contents.{schema_of};
@@ -21,14 +21,6 @@ pub(crate) fn has_type(types: &BTreeSet<EntityType>, name: &EntityType) -> bool
     ensures { result ≡ is_among (types_of types.now) (type_of name.now) }
 {
     types.contains(name)
-}
-
-/// Whether a set of types has one of these types.
-pub(crate) fn has_any_type(types: &BTreeSet<EntityType>, names: &[&EntityType]) -> bool
-    ensures { result
-        ≡ list_any (is_among (types_of types.now)) (map (λ t. type_of t.now) names.now) }
-{
-    names.iter().any(|name| has_type(types, name))
 }
 
 /// Whether the type `below` is declared as a descendant of the type `above`.

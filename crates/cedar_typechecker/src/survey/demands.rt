@@ -2,16 +2,15 @@
 ghost use Rattle.std.specs.Prelude.{◌≡◌, ◌↔◌, Some, option_map, IfOk, OnOk};
 ghost use Rattle.std.specs.Ordering.{eq_by_cmp};
 ghost use Rattle.std.specs.Set.{IsUnion};
-ghost use Rattle.cedar_types.specs.Errors.{Finding, finding_of};
+ghost use Rattle.cedar_types.specs.Errors.{Finding};
 ghost use Rattle.cedar_types.specs.Names.{text_of};
 ghost use Rattle.cedar_typing.specs.Evaluation.Conformance.{IsOneOf};
-ghost use Rattle.cedar_typechecker.specs.Levels.Demands.{told, told_of};
-ghost use Rattle.cedar_typechecker.specs.Levels.Errors.{exceeds, reported};
-ghost use Rattle.cedar_typechecker.specs.Levels.Views.{need_of, demand_of, demands_of, findings, findings_if_any};
+ghost use Rattle.cedar_typechecker.specs.Levels.Demands.{told};
+ghost use Rattle.cedar_typechecker.specs.Levels.Views.{need_of, demands_of, findings};
 ghost use Rattle.cedar_typechecker.specs.Surveys.{raise, raise_all, of_32_bits};
 
 use crate::level_validate::demands::{Demand, Need};
-use cedar_types::base::{EntityDerefLevel, Loc, PolicyID, ValidationError};
+use cedar_types::base::{EntityDerefLevel, PolicyID, ValidationError};
 use std::alloc::{AllocError, Global};
 use std::collections::BTreeSet;
 
@@ -85,59 +84,4 @@ pub(crate) fn insert_all<E: Ord + Drop>(
         set.insert(x)?;
     }
     Ok(())
-}
-
-impl Demand {
-    /// The error of this demand at a maximum, if the maximum does not meet it, and no other error stands for it.
-    fn error_at(
-        &self,
-        maximum: u32,
-        policy_id: &PolicyID,
-    ) -> Result<Option<ValidationError>, AllocError>
-        ensures { IfOk result (λ error. findings_if_any error
-            ≡ told_of (text_of policy_id.now.text) maximum (demand_of self.now)) }
-    {
-        if u64::from(maximum) < self.hidden_below {
-            return Ok(None);
-        }
-        match self.need {
-            Need::Level(level) => {
-                if level <= u64::from(maximum) {
-                    return Ok(None);
-                }
-                let id = policy_id.clone()?;
-                Ok(Some(exceeded(self.loc, id, maximum, level)))
-            }
-            Need::NoLiteral => {
-                let id = policy_id.clone()?;
-                Ok(Some(ValidationError::literal_dereference_target(self.loc, id)))
-            }
-            Need::Rule => {
-                let id = policy_id.clone()?;
-                Ok(Some(ValidationError::internal_invariant_violation(self.loc, id)))
-            }
-        }
-    }
-}
-
-/// The error that this level is required, which is above the maximum.
-fn exceeded(loc: Option<Loc>, id: PolicyID, maximum: u32, level: u64) -> ValidationError
-    ensures { finding_of result
-        ≡ record { place = loc; policy = text_of id.text; fault = exceeds maximum level } }
-{
-    let allowed = EntityDerefLevel { level: maximum };
-    let required = EntityDerefLevel {
-        level: reported(level),
-    };
-    ValidationError::maximum_level_exceeded(loc, id, allowed, required)
-}
-
-/// A level as an error reports it: at most the greatest number of 32 bits.
-fn reported(level: u64) -> u32
-    ensures { result ≡ reported level }
-{
-    match u32::try_from(level) {
-        Ok(level) => level,
-        Err(_) => u32::MAX,
-    }
 }

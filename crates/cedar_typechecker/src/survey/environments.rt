@@ -1,5 +1,5 @@
 // The environments in which the errors of a policy occur.
-ghost use Rattle.std.specs.Prelude.{◌≡◌, List, [], ◌∷◌, ◌++◌, option_map, IfOk, OnOk};
+ghost use Rattle.std.specs.Prelude.{◌≡◌, List, [], ◌∷◌, ◌++◌, option_map, IfOk, OnOk, OnErr};
 ghost use Rattle.std.specs.BTreeMap.{get};
 ghost use Rattle.cedar_types.specs.Environments.RequestEnvs.{Env, env_of};
 ghost use Rattle.cedar_types.specs.ErrorOrder.{error_cmp};
@@ -14,8 +14,9 @@ use cedar_types::types::request_env::RequestEnv;
 use std::alloc::{AllocError, Global};
 use std::collections::{BTreeMap, BTreeSet};
 
-/// The number of environments that are kept for each error: few, so that a survey does not grow with the environments.
-const MAX_LISTED: usize = 5;
+/// The most environments that are listed for each error: few, so that a survey does not grow with the environments, and a
+/// reader sees them all.
+pub const MAX_ENVIRONMENTS_LISTED: usize = 5;
 
 /// An environment of a policy: its types, its action and the links of its slots.
 #[derive(Debug, Drop)]
@@ -33,7 +34,7 @@ pub struct Environment {
 pub struct Environments {
     /// Their number. The greatest number of 64 bits stands for itself and for all greater ones.
     pub count: u64,
-    /// The first five, or all of fewer.
+    /// The first `MAX_ENVIRONMENTS_LISTED`, or all of fewer.
     pub listed: Vec<Environment>,
 }
 
@@ -74,15 +75,21 @@ impl Environments {
         }
     }
 
-    /// One environment more.
-    fn add(&mut self, alloc: Global, env: &RequestEnv<'_>) -> Result<(), AllocError>
-        ensures { OnOk result ((own : List Env) → IsListing own self.old
+    /// Adds an environment behind the others: it is counted, and it is listed if fewer than `MAX_ENVIRONMENTS_LISTED` are. An
+    /// environment that is added twice counts twice.
+    ///
+    /// If memory is refused, the answer is an `AllocError`, and nothing is added (clause `kept`). If so many are listed already,
+    /// the call takes no memory.
+    pub fn add(&mut self, alloc: Global, env: &RequestEnv<'_>) -> Result<(), AllocError>
+        ensures added { OnOk result ((own : List Env) → IsListing own self.old
             → IsListing (own ++ env_of env.now ∷ []) self.new) }
+        ensures kept { OnErr result ((own : List Env) → IsListing own self.old
+            → IsListing own self.new) }
     {
-        self.count = self.count.saturating_add(1);
-        if self.listed.len() < MAX_LISTED {
+        if self.listed.len() < MAX_ENVIRONMENTS_LISTED {
             self.listed.push(Environment::of(alloc, env)?)?;
         }
+        self.count = self.count.saturating_add(1);
         Ok(())
     }
 }

@@ -1,12 +1,12 @@
 // The actions that the scope of a policy admits, where the schema alone decides which.
 ghost use Rattle.std.specs.Prelude.{◌≡◌, map, option_map, IfOk};
-ghost use Rattle.std.specs.List.{list_all};
-ghost use Rattle.cedar_types.specs.Names.{Uid, path_eq, type_of, uid_of};
+ghost use Rattle.cedar_types.specs.Names.{Uid, type_of, uid_of};
 ghost use Rattle.cedar_types.specs.Schemas.{uid_is_among};
 ghost use Rattle.cedar_types.specs.Schemas.Contents.{schema_of};
 ghost use Rattle.cedar_types.specs.Templates.{action_scope_of};
 ghost use Rattle.cedar_typechecker.specs.LeftOut.{are_of_type, are_of_one_action_type, AdmitsIfDecided};
 
+use crate::rbac::members::is_same_type;
 use cedar_types::base::{ActionConstraint, EntityType, EntityUID, ValidatorSchema};
 use std::alloc::{AllocError, Global};
 use std::collections::BTreeSet;
@@ -53,20 +53,9 @@ fn are_of_one_action_type(actions: &[EntityUID]) -> bool
 fn are_of_type(entity_type: &EntityType, actions: &[EntityUID]) -> bool
     ensures { result ≡ are_of_type (type_of entity_type.now) (map uid_of actions.now) }
 {
-    each_is_of_type(entity_type, actions)
-}
-
-fn each_is_of_type(entity_type: &EntityType, actions: &[EntityUID]) -> bool
-    ensures { result ≡ list_all
-        (λ a. path_eq (uid_of a).entity_type (type_of entity_type.now)) actions.now }
-{
-    actions.iter().all(|action| is_of_type(entity_type, action))
-}
-
-fn is_of_type(entity_type: &EntityType, action: &EntityUID) -> bool
-    ensures { result ≡ path_eq (uid_of action.now).entity_type (type_of entity_type.now) }
-{
-    action.entity_type == *entity_type
+    actions
+        .iter()
+        .all(|action| is_same_type(&action.entity_type, entity_type))
 }
 
 /// The set of these.

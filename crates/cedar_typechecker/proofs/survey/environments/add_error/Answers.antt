@@ -21,5 +21,5 @@ returns c x =
     let before = subst Before was
     (subst P (sym c.unwrap_or-environments.ensures) (unwrapped found none c.none.ensures)) in
     one_added env c.args.error x c.args.all.now c.remove-found.new.self c.insert.new.self o
-    c.add.new.self before c.in_ok-add.ensures (c.remove-found.ensures.updates.0 x)
+    c.add.new.self before c.in_ok-add.ensures.added (c.remove-found.ensures.updates.0 x)
     (c.in_ok-insert.ensures.updates.0 x)

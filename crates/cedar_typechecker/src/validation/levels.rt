@@ -8,7 +8,7 @@ ghost use Rattle.cedar_typechecker.specs.Slices.Validation.{SilenceIsKept, Warne
 ghost use Rattle.cedar_typechecker.specs.Surveys.{AddsFound};
 ghost use Rattle.cedar_typechecker.specs.ValidatorViews.{basis_in};
 
-use crate::level_validate::answers::{LevelErrors, LevelWarnings};
+use crate::level_validate::{LevelErrors, LevelWarnings};
 use crate::rbac::Validator;
 use crate::survey::Survey;
 use crate::validation::append_keys;

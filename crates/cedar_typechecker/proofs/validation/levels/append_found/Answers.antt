@@ -2,7 +2,7 @@ use Rattle.std.proofs.Common.{◌∙◌, ◌++◌, ap, subst, append_assoc}
 use Rattle.std.specs.BTreeMap.{keys}
 use Rattle.cedar_typechecker.specs.Levels.Outcome.{AreApart}
 use Rattle.cedar_typechecker.specs.Levels.Views.{findings}
-use Rattle.cedar_typechecker.proofs.level_validate.policy.append_found.Goals as goal
+use Rattle.cedar_typechecker.proofs.validation.levels.append_found.Goals as goal
 
 pub returns : goal.returns
 returns c =
