@@ -1,4 +1,4 @@
--- What was loaded has the slice, so it gives the same outcomes and responses.
+-- The loaded store has the slice, so it gives the same outcomes and responses.
 use Rattle.std.proofs.Common.{ℕ, sym, subst}
 use Rattle.cedar_types.specs.Values.Stores.{Store}
 use Rattle.cedar_typechecker.specs.Slices.Reach.{HoldsSlice}

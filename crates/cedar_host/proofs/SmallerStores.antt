@@ -12,7 +12,7 @@ use Rattle.cedar_typechecker.proofs.Slices.Stores.{agrees, passes, slices_hold}
 use Rattle.cedar_host.specs.Loading.{AreAmong}
 use Rattle.cedar_host.proofs.AddedIds.{among}
 
--- what is reached in fewer than n steps is reached in some number of them
+-- an entity that is reached in fewer than n steps is reached in some number of them
 some_step : (r : Request) (store : Store) (n : ℕ) (u : Uid) → IsOneOf u (reach_below r store n)
     → (j : ℕ) × (j < n) × IsOneOf u (reach r store j)
 some_step r store zero u h = absurd h
@@ -21,7 +21,7 @@ some_step r store (suc n) u h =
     (λ i. let s = some_step r store n u i in (s.0, omega (arith, s.1), s.2)) (λ i. (n, omega arith, i))
 
 module _ (r : Request) (kept whole : Store) (smaller : IsPartOf kept whole) where
-  -- an entity of the smaller store holds what it holds in the other
+  -- an entity of the smaller store holds only ids that it holds in the whole store
   held_too : (u : Uid) → AreAmong (ids_of (entity_at kept u)) (ids_of (entity_at whole u))
   held_too u = by (entity_at kept u) (smaller u)
     where

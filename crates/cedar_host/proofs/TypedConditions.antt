@@ -33,7 +33,7 @@ mapped_from f b (a ∷ xs) (inr h) =
     let r = mapped_from f b xs h in
     (r.0, inr r.1, r.2)
 
--- the condition in a verdict means what the verdict does
+-- the typed condition in a verdict evaluates as the expression, if the verdict means the same
 of_verdict : (world : World) (e : Source) (v : Verdict) (x : TypedTree) → typed_condition_in v ≡ Some x
     → VerdictMeansTheSame world e v → EvaluatesAs world x e
 of_verdict world e (succeeds y) x q h = subst (λ z. EvaluatesAs world z e) (some_is q) h

@@ -1,4 +1,5 @@
--- Findings in a policy: exactly those of its survey, of the passes over its names and of its levels.
+-- Findings in a policy: exactly those of its survey, of the passes over its names and of its
+-- levels.
 use Rattle.std.specs.Prelude.{◌≡◌, ◌↔◌, ℕ, Bool, true, false, ◌&&◌, List, [], ◌∷◌, ◌++◌, map, cond}
 use Rattle.std.specs.BTreeMap.{BTreeMap, keys}
 use Rattle.cedar_types.specs.declared.base.errors.validation_errors.ValidationError.{ValidationError}
@@ -22,8 +23,8 @@ use Rattle.cedar_host.specs.ReportOrder.{IsInOrder}
 abbrev pub listed : BTreeMap ValidationError Environments → List Finding
 listed errors = findings (keys errors)
 
--- the findings of a survey, of the passes over names, and of these level errors. The passes find equal errors in Strict and
--- in Permissive
+-- the findings of a survey, of the passes over names, and of these level errors. The passes find
+-- equal errors in Strict and in Permissive
 pub record AreFoundBy (s : Schema) (t : PlainTemplate) (survey : Survey) (levels : List Finding) (f : Findings) : Type 0 where
   -- the policy is accepted if no level and no name has an error, and each check passes
   pub accepted : f.is_accepted ≡ (is_silent levels && (is_silent (name_findings Strict s t) && passes_of survey))
@@ -50,8 +51,8 @@ AreFindingsWithin n b t f =
 abbrev pub ListsAnError : PolicyReport → Type 0
 ListsAnError r = r.is_accepted ≡ false → r.errors.items ≡ [] → ⊥
 
--- a report has the findings in its policy, and if it refuses the policy it lists an error. What it lists stands in the order of
--- places
+-- a report has the findings in its policy, lists an error if it refuses the policy, and lists its
+-- findings in the order of places
 pub record IsReportOf (AreFindings : PlainTemplate → Findings → Type 0) (r : PolicyReport) : Type 0 where
   pub outcome : Findings
   pub found : AreFindings (template_of r.policy.now.template) outcome

@@ -1,4 +1,5 @@
--- The order of what a report lists: what has no place first, then by where places start, and then by where they end.
+-- The order of the findings in a report: first those without a place, then by where places start,
+-- and then by where they end.
 use Rattle.std.specs.Prelude.{◌≡◌, ◌⊎◌, ◌<◌, ◌≤◌, List, [], ◌∷◌, map, Option, Some, None}
 use Rattle.std.specs.List.{AllByRecursion}
 use Rattle.cedar_types.specs.declared.base.location.Loc.{Loc}

@@ -1,4 +1,4 @@
--- What decides a response: neither the order of the policies nor a policy that is impossible.
+-- The response depends neither on the order of the policies nor on a policy that is impossible.
 use Rattle.std.specs.Prelude.{◌≡◌, ◌↔◌, true, false, List, ◌∷◌, ◌++◌, IsPermutation}
 use Rattle.cedar_types.specs.Templates.{template_of}
 use Rattle.cedar_typing.specs.Composition.{SlotsInScopeAlone}
@@ -11,7 +11,7 @@ use Rattle.cedar_host.specs.Safety.{IsNeverTrue}
 
 -- ---- the order
 
--- what is one of the first list is one of the second, and the other way round
+-- the two lists have the same members
 abbrev pub HaveSameMembers : {A : Type 0} → List A → List A → Type 0
 HaveSameMembers {A} xs ys = (x : A) → IsOneOf x xs ↔ IsOneOf x ys
 
@@ -32,15 +32,16 @@ pub record DecidesAlike (r s : Response) : Type 0 where
   pub decision : r.decision ≡ s.decision
   pub determining : r.determining ≡ s.determining
 
--- a policy may be left out among others: in each world that conforms, whether it permits or forbids, and whether or not its
--- slots are bound
+-- a policy may be left out among others: in each world that conforms, whether it permits or
+-- forbids, and whether or not its slots are bound
 abbrev pub MayBeLeftOut : Basis → LinkedPolicy → Type 0
 MayBeLeftOut b p =
     (world : World) → IsConforming b world
     → (before after : List LinkedPolicy)
     → DecidesAlike (response world (before ++ p ∷ after)) (response world (before ++ after))
 
--- so may one that is never true, whose slots stand in its scope alone, by a schema without external declarations
+-- so may one that is never true, whose slots stand in its scope alone, by a schema without external
+-- declarations
 abbrev pub ImpossibleDecidesNothing : Type 0
 ImpossibleDecidesNothing =
     (b : Basis) (p : LinkedPolicy) → IsNeverTrue b p.template

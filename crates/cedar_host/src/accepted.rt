@@ -105,7 +105,8 @@ impl<'a, C: ArgumentCheck> AcceptedPolicies<'a, C> {
     pub fn policies(&self) -> &[LinkedTemplate<'a>]
         ensures same { result.now ≡ policies_in self.now }
         ensures admissible { All
-            (IsAdmissible (basis_by C.refusal self.now) (steps_by self.now)) (policies_in self.now) }
+            (IsAdmissible (basis_by C.refusal self.now) (steps_by self.now))
+            (policies_in self.now) }
     {
         &self.policies
     }

@@ -106,7 +106,8 @@ pub fn validate_and_admit<C: ArgumentCheck>(
     entities: &Entities,
 ) -> Result<Result<(), AdmissionFault>, AllocError>
     ensures sliced { IfOk result (λ r. IsOk r
-        → EvaluatesInSlices (sound_basis mode C.refusal validator.now) steps request.now entities.now
+        → EvaluatesInSlices (sound_basis mode C.refusal validator.now) steps request.now
+        entities.now
         (template_of policy.now.template.now) (slots_of policy.now.values.now)) }
     ensures exact { IfOk result (λ r. LetsInExactly (sound_basis mode C.refusal validator.now) steps
         (schema_in validator.now) policy.now request.now entities.now r) }

@@ -144,10 +144,7 @@ fn held_at(alloc: Global, entities: &Entities, id: &EntityUID) -> Result<Vec<Ent
         map uid_of held.items ≡ held_in (store_of entities.now) (uid_of id.now)) }
 {
     match entities.get(id) {
-        Some(entity) => {
-            let held = ids_in_entity(alloc, entity)?;
-            Ok(held)
-        }
+        Some(entity) => { ids_in_entity(alloc, entity) }
         None => Ok(Vec::new(alloc)),
     }
 }

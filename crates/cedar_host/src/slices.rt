@@ -57,7 +57,8 @@ pub fn validate_for_slices<'a, C: ArgumentCheck>(
     ensures unneeded { IfOk result (λ reports. All (λ r.
         IsUnneeded (sound_basis mode C.refusal validator.now) r.report) reports.items) }
     ensures exact { IfOk result (λ reports. All (λ r. IsReportOf
-        (AreFindingsWithin steps (sound_basis mode C.refusal validator.now)) r.report) reports.items) }
+        (AreFindingsWithin steps (sound_basis mode C.refusal validator.now)) r.report)
+        reports.items) }
 {
     let mut reports = Vec::with_capacity(alloc, policies.len())?;
     for policy in policies {
@@ -102,7 +103,8 @@ pub fn validate_within<C: ArgumentCheck>(
     ensures safe { IfOk result (λ found. found.is_accepted ≡ true
         → DoesNotGoWrong (sound_basis mode C.refusal validator.now) (template_of policy.now)) }
     ensures sliced { IfOk result (λ found. found.is_accepted ≡ true
-        → NeedsSliceAlone (sound_basis mode C.refusal validator.now) (template_of policy.now) steps) }
+        → NeedsSliceAlone (sound_basis mode C.refusal validator.now) (template_of policy.now)
+        steps) }
     ensures never_true { IfOk result (λ found. found.is_impossible ≡ true
         → IsNeverTrue (sound_basis mode C.refusal validator.now) (template_of policy.now)) }
     ensures level { IfOk result (λ found.

@@ -23,7 +23,7 @@ joined us u (Some vs) = ap Some (append_assoc us (u ∷ []) vs)
 
 module _ (us : List Uid) (x : Typed) (xs : List Typed) (o : Option EntityUID)
     (found : option_map uid_of o ≡ entity_literal (typed_tree x)) where
-  -- one entity more
+  -- an element that is an entity literal adds its entity behind those before it
   pub one_entity : (u : EntityUID) → o ≡ Some u → after (us ++ uid_of u ∷ []) (literals_in xs) ≡ after us (literals_in (x ∷ xs))
   one_entity u h =
       joined us (uid_of u) (literals_in xs)

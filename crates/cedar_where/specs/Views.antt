@@ -17,7 +17,7 @@ use Rattle.cedar_where.specs.Sql.{Sql, sql_null, sql_truth, sql_number, sql_text
 use Rattle.cedar_where.specs.Sql.{sql_and, sql_or, sql_case, sql_equal, sql_less, sql_less_equal, sql_is_not_null, sql_is_true}
 use Rattle.cedar_where.specs.Sql.{sql_matches, sql_is_in, sql_is_in_any}
 
--- one layer of an expression, over the trees of its parts
+-- a layer of an expression, over the trees of its parts
 abbrev pub sql_step : SqlExpr-F Sql → Sql
 sql_step layer.Null = sql_null
 sql_step (layer.Truth b) = sql_truth b

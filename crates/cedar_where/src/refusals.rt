@@ -23,7 +23,7 @@ pub enum Reason {
     Unknown,
     /// `if`: its clause could be exponentially long.
     Conditional,
-    /// Sums, differences and products of SQL do not fail where those of Cedar do.
+    /// Sums, differences and products fail in Cedar in cases in which SQL's do not.
     Arithmetic,
     /// No column has a set, and no set has a clause.
     Set,
@@ -37,8 +37,8 @@ pub enum Reason {
     NotOfResource,
     /// No column of the table has the attribute.
     NoColumn,
-    /// A text, an id, a name or a pattern with NUL, which no driver takes, or with a backslash, which begins an escape in some
-    /// dialects.
+    /// A text, an id, a name or a pattern with NUL, which no driver takes, or with a backslash,
+    /// which begins an escape in some dialects.
     Text,
     /// `!`, `&&` and `||` need truth values.
     NotBoolean,

@@ -21,7 +21,7 @@ pub(crate) const ID_COLUMN: &str = "eid";
 /// The kind of the values that a column holds.
 #[derive(Clone, Copy, PartialEq, Eq, Debug)]
 pub enum ColumnType {
-    /// 0 or 1.
+    /// A truth value: 0 or 1.
     Bool,
     /// A whole number of 64 bits.
     Long,
@@ -39,12 +39,14 @@ pub struct Column {
     pub is_required: bool,
 }
 
-/// The table of the entities of a type, a row for each: the column `eid` holds its id, and each other column an attribute.
+/// The table of the entities of a type, a row for each: the column `eid` holds its id, and each
+/// other column an attribute.
 #[derive(Debug, Drop)]
 pub struct Table {
     pub name: String,
     pub columns: Vec<Column>,
-    /// The attributes that have no column: sets, records, and values of extension types or of several entity types.
+    /// The attributes that have no column: sets, records, and values of extension types or of
+    /// several entity types.
     pub left_out: Vec<RcStr>,
 }
 
@@ -53,7 +55,8 @@ pub struct Table {
 pub enum TableFault {
     /// The name of an attribute has NUL or a backslash.
     Text(RcStr),
-    /// The name of an attribute equals another's, or `eid`, in all but upper and lower case, which SQL does not tell apart.
+    /// The name of an attribute equals another's, or `eid`, in all but upper and lower case, which
+    /// SQL does not tell apart.
     SameName(RcStr),
 }
 
@@ -72,19 +75,22 @@ impl fmt::Display for TableFault {
 }
 
 impl Table {
-    /// The table of the entities of this type, or the reason why there is none. It has a column for each attribute that is a
-    /// truth value, a number, a text or an entity of one type, in the order of their names; the column is required if the
-    /// attribute is (clause `columns`). The other attributes are left out (clause `left_out`). No clause tells which types have
-    /// no table. If memory is refused, the answer is an `AllocError`.
+    /// The table of the entities of this type, or the reason why there is none. It has a column for
+    /// each attribute that is a truth value, a number, a text or an entity of one type, in the
+    /// order of their names; the column is required if the attribute is (clause `columns`). The
+    /// other attributes are left out (clause `left_out`). No clause tells which types have no
+    /// table. If memory is refused, the answer is an `AllocError`.
     pub fn of_type(
         alloc: Global,
         schema: &ValidatorSchema,
         entity_type: &EntityType,
     ) -> Result<Result<Table, TableFault>, AllocError>
         ensures columns { IfOk result (λ t. IfOk t (λ table. map holder_of table.columns.items
-            ≡ columns (attributes_in (schema_of schema.now) (TEntity (type_of entity_type.now ∷ []))))) }
+            ≡ columns (attributes_in (schema_of schema.now)
+            (TEntity (type_of entity_type.now ∷ []))))) }
         ensures left_out { IfOk result (λ t. IfOk t (λ table. map text_of table.left_out.items
-            ≡ left_out (attributes_in (schema_of schema.now) (TEntity (type_of entity_type.now ∷ []))))) }
+            ≡ left_out (attributes_in (schema_of schema.now)
+            (TEntity (type_of entity_type.now ∷ []))))) }
     {
         let ty = CedarType::entity_reference(alloc, entity_type, schema)?;
         let attributes = ty.attributes(alloc, schema)?;
