@@ -1,4 +1,4 @@
--- What a call leaves in the buffer of its caller.
+-- The buffer of a caller after a call.
 use Rattle.std.specs.Prelude.{◌≡◌, ◌≤◌, ◌<◌, ℕ, List, ◌++◌, length, drop}
 use Rattle.std.specs.Str.{IsUtf8}
 
@@ -7,8 +7,9 @@ pub record IsLeft (old new : List ℕ) (needed : ℕ) : Type 0 where
   pub same : new ≡ old
   pub none : needed ≡ 0
 
--- one of three: an answer that stands at the beginning of the buffer, whose rest is as it was; an answer for which the buffer is
--- too small, and as it was; and no answer, because memory was refused
+-- a call hands over one of three: an answer that stands at the beginning of the buffer, whose rest
+-- is as it was; an answer for which the buffer is too small, and as it was; and no answer, because
+-- memory was refused
 pub data IsHandedOver (old new : List ℕ) (needed : ℕ) : ℕ → Type 0 where
   answered : (text : List ℕ) → IsUtf8 text → needed ≡ length text → length text ≤ length old
       → new ≡ text ++ drop (length text) old → IsHandedOver old new needed 0

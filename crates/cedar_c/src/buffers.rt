@@ -1,17 +1,18 @@
-// How an answer comes into the buffer of a caller.
+// Answers in the buffer of a caller.
 ghost use Rattle.std.specs.Prelude.{◌<◌};
 ghost use Rattle.cedar_c.specs.Buffers.{IsHandedOver};
 
 use std::alloc::AllocError;
 
-/// The status where the answer stands in the buffer.
+/// The status if the answer stands in the buffer.
 const ANSWERED: u32 = 0;
-/// The status where the buffer is too small.
+/// The status if the buffer is too small.
 const TOO_SMALL: u32 = 1;
-/// The status where memory was refused.
+/// The status if memory was refused.
 const NO_MEMORY: u32 = 2;
 
-/// Hands an answer over, if there is one: it stands in the buffer where that is large enough. Answers the status.
+/// Hands an answer over, if there is one: it stands in the buffer if the buffer is large enough.
+/// The result is the status.
 pub fn hand_over(said: Result<String, AllocError>, answer: &mut [u8], needed: &mut usize) -> u32
     ensures handed { IsHandedOver answer.old answer.new needed.new result }
     ensures status { result < 3 }
@@ -23,7 +24,7 @@ pub fn hand_over(said: Result<String, AllocError>, answer: &mut [u8], needed: &m
     put(said.as_str(), answer, needed)
 }
 
-/// Puts a text into the buffer where that is large enough. Answers the status.
+/// Puts a text into the buffer, if the buffer is large enough. The result is the status.
 fn put(text: &str, answer: &mut [u8], needed: &mut usize) -> u32
     ensures handed { IsHandedOver answer.old answer.new needed.new result }
     ensures status { result < 3 }

@@ -1,5 +1,6 @@
-//! The validator for programs in other languages: the calls that `cedar.h` declares. Each takes the text of a call and a buffer for
-//! the answer. Nothing is kept between calls, and nothing is printed.
+//! The validator for programs in other languages: the calls that `cedar.h` declares. Each takes the
+//! text of a call and a buffer for the answer. Nothing is kept between calls, and nothing is
+//! printed.
 #![tactic(auto)]
 
 ghost use Rattle.std.specs.Prelude.{◌≡◌, ◌≢◌, ◌↔◌};
@@ -14,10 +15,11 @@ use cedar_calls::data::check_data_call;
 use cedar_calls::validation::validate_call;
 use std::alloc::Global;
 
-/// The number of these calls: it grows where the signature or a status of one of them changes its meaning.
+/// The number of these calls: it grows if the signature or a status of one of them changes its
+/// meaning.
 const ABI: u32 = 1;
 
-/// The status where the call is no text in UTF-8.
+/// The status if the call is no text in UTF-8.
 const NO_TEXT: u32 = 3;
 
 /// The number of the calls that this library has.
@@ -28,11 +30,13 @@ pub extern "C" fn cedar_abi() -> u32
     ABI
 }
 
-/// Validates policies by a schema, as a `ValidationCall` asks, whose answer is a `ValidationAnswer`. The status is 3 exactly where
-/// the call is no text in UTF-8 (clause `text`), and then the buffer stays as it is (clause `kept`). Else the answer, a text in
-/// UTF-8, is handed over, or memory was refused (clause `handed`): status 0, and it stands at the beginning of the buffer, whose
-/// rest stays as it is; 1, and the buffer is too small for the `needed` bytes, and stays as it is; 2, memory was refused, `needed`
-/// is 0, and the buffer stays as it is.
+/// Validates policies by a schema, as a `ValidationCall` asks, whose answer is a
+/// `ValidationAnswer`. The status is 3 exactly if the call is no text in UTF-8 (clause `text`), and
+/// then the buffer stays as it is (clause `kept`). Otherwise the call hands over the answer, a text
+/// in UTF-8, or memory was refused (clause `handed`): at status 0, the answer stands at the
+/// beginning of the buffer, whose rest stays as it is; at status 1, the buffer is too small for the
+/// `needed` bytes, and stays as it is; at status 2, memory was refused, `needed` is 0, and the
+/// buffer stays as it is.
 #[unsafe(no_mangle)]
 pub extern "C" fn cedar_validate(
     alloc: Global,
@@ -72,7 +76,8 @@ pub extern "C" fn cedar_check_data(
     hand_over(said, answer, needed)
 }
 
-/// Answers the condition of a policy in each of its environments. Statuses and clauses are those of [`cedar_validate`].
+/// Answers the condition of a policy in each of its environments. Statuses and clauses are those of
+/// [`cedar_validate`].
 #[unsafe(no_mangle)]
 pub extern "C" fn cedar_typed_conditions(
     alloc: Global,

@@ -14,7 +14,7 @@ one_more_each about policies i policy old new answer pushed each on_policy below
     ∙ ap (λ p. take i policies ++ p ∷ []) is
     ∙ sym (take_more policies i policy below)
 
--- and has what all have
+-- a property of all answers and of one more is a property of each in the longer list
 pub one_more_right : {A : Type 0} (P : A → Type 0) (old new : List A) (answer : A)
     → new ≡ old ++ answer ∷ [] → All P old → P answer → All P new
 one_more_right P old new answer pushed all right =

@@ -1,4 +1,4 @@
-//! What a call that validates is answered, before it is written: a verdict on each of its policies.
+//! Verdicts on the policies of a call that validates, before they are written as an answer.
 ghost use Rattle.std.specs.Prelude.{◌≡◌, map, All, IfOk};
 ghost use Rattle.cedar_verdicts.specs.Verdicts.{basis_of};
 ghost use Rattle.cedar_calls.specs.Answers.{IsRightAnswer, IsWholeAnswer};
@@ -10,17 +10,19 @@ use cedar_verdicts::settings::Settings;
 use cedar_verdicts::verdicts::judge;
 use std::alloc::{AllocError, Global};
 
-/// A policy of a call, and what is said of it.
+/// A policy of a call, and the verdict on it.
 #[derive(Drop)]
 pub struct Answered<'a> {
     pub given: &'a Given,
     pub verdict: Verdict,
 }
 
-/// What is said of each policy of a call, in its order (clause `each`). A policy that is accepted in Strict or in Permissive does
-/// not go wrong, and at a level it needs the slice alone; a level that is said is the required one (clause `right`). It is accepted
-/// exactly where its checks, its names, its levels and the texts of its calls have no error, and one that is refused has an error
-/// (clause `whole`). Where memory is refused, the answer is an `AllocError`.
+/// The verdict on each policy of a call, in the order of the policies (clause `each`). A policy
+/// that is accepted in Strict or in Permissive does not go wrong, and at a level it needs the slice
+/// alone; a level that the verdict names is the required one (clause `right`). A policy is accepted
+/// exactly if its checks, its names, its levels and the texts of its calls have no error, and a
+/// refused policy has an error (clause `whole`). If memory is refused, the answer is an
+/// `AllocError`.
 pub fn judge_all<'a, C: ArgumentCheck>(
     alloc: Global,
     settings: &Settings<'_, C>,
@@ -40,7 +42,7 @@ pub fn judge_all<'a, C: ArgumentCheck>(
     Ok(all)
 }
 
-/// What is said of a policy of a call.
+/// The verdict on one policy of a call.
 pub(crate) fn judge_one<'a, C: ArgumentCheck>(
     alloc: Global,
     settings: &Settings<'_, C>,

@@ -8,15 +8,15 @@ use cedar_findings::findings::{Finding, Requirement, Severity, Verdict};
 use cedar_types::base::Loc;
 use std::alloc::{AllocError, Global};
 
-/// What Cedar calls a detailed error.
+/// A detailed error, as Cedar calls it.
 #[derive(Clone, Copy)]
 struct Detailed<'t, 'h> {
     text: &'t str,
-    /// What may help; empty where that is not known.
+    /// A hint that may help; empty if none is known.
     hint: &'h str,
     code: Code,
     severity: Severity,
-    /// None where it has no place in a text.
+    /// None if the error has no place in a text.
     place: Option<Loc>,
 }
 
@@ -58,7 +58,7 @@ impl Answer {
         self.end_object()
     }
 
-    /// Adds what is found in a policy.
+    /// Adds a finding of a policy.
     fn add_finding(
         &mut self,
         id: &str,
@@ -88,7 +88,7 @@ impl Answer {
         self.end_object()
     }
 
-    /// Adds that a policy has so many findings more than are listed.
+    /// Adds the number of a policy's findings that are not listed.
     fn add_rest(&mut self, id: &str, severity: Severity, others: usize) -> Result<(), AllocError> {
         let alloc = self.alloc;
         let text = format!(in alloc; "{others} more findings")?;
@@ -106,7 +106,8 @@ impl Answer {
         self.end_object()
     }
 
-    /// Adds all errors of a policy, or all warnings. What is not listed may be why the policy is refused.
+    /// Adds all errors of a policy, or all warnings. A finding that is not listed may be the reason
+    /// that the policy is refused.
     pub fn add_findings(
         &mut self,
         answered: &Answered<'_>,
@@ -143,7 +144,7 @@ impl Answer {
         self.end_object()
     }
 
-    /// Adds a member of this key, what is said of data.
+    /// Adds a member of this key, the verdict on data.
     pub fn add_data(&mut self, key: &str, verdict: &DataVerdict) -> Result<(), AllocError> {
         self.begin_object_at(key)?;
         self.boolean_at("conforms", verdict.is_accepted)?;
@@ -165,7 +166,8 @@ impl Answer {
     }
 }
 
-/// What the findings of a policy are that are not listed: errors may be among them where it is refused.
+/// The severity of the findings of a policy that are not listed: errors may be among them if the
+/// policy is refused.
 fn severity_of_rest(verdict: &Verdict) -> Severity {
     if verdict.is_accepted {
         Severity::Warning

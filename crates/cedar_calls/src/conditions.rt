@@ -1,4 +1,5 @@
-//! The call that asks for the typed conditions of a policy, one for each environment: a compiler of policies begins with them.
+//! The call that asks for the typed conditions of a policy, one for each environment: a compiler of
+//! policies begins with them.
 ghost use Rattle.std.specs.Prelude.{◌≡◌, true, false, None, option_map, IfOk};
 ghost use Rattle.cedar_types.specs.Templates.{template_of};
 ghost use Rattle.cedar_typing.specs.Views.Checks.{basis_of as basis_in};
@@ -38,18 +39,19 @@ struct ConditionsCall {
     given: Given,
 }
 
-/// A policy with what is said of it, and its typed conditions if it is accepted.
+/// A policy with the verdict on it, and its typed conditions if it is accepted.
 #[derive(Drop)]
 pub struct PolicyConditions<'a> {
     pub answered: Answered<'a>,
-    /// One for each environment of the policy; `None` where the policy is refused.
+    /// One for each environment of the policy; `None` if the policy is refused.
     pub conditions: Option<Vec<TypedCondition<'a>>>,
 }
 
-/// What is said of a policy, and its typed conditions. The verdict is as `judge_all` says it (clauses `right` and `whole`). Where it
-/// accepts the policy, the conditions are those of its environments (clause `exact`), and in Strict and in Permissive each evaluates
-/// as the policy's condition does there (clause `meaning`); else there are none (clause `refused`). Where memory is refused, the
-/// answer is an `AllocError`.
+/// The verdict on a policy, and its typed conditions. The verdict is the one that `judge_all` gives
+/// (clauses `right` and `whole`). If it accepts the policy, the conditions are those of its
+/// environments (clause `exact`), and in Strict and in Permissive each evaluates as the policy's
+/// condition does there (clause `meaning`); otherwise there are none (clause `refused`). If memory
+/// is refused, the answer is an `AllocError`.
 pub fn conditions_of<'a, C: ArgumentCheck>(
     alloc: Global,
     settings: &Settings<'_, C>,
@@ -84,11 +86,12 @@ pub fn conditions_of<'a, C: ArgumentCheck>(
     })
 }
 
-/// Answers a call that asks for typed conditions, an object of `schema`, `policy` and perhaps `validationSettings`, by a text of
-/// JSON: whether the policy is accepted, its errors, and then each environment with its condition in Cedar's own form of JSON. The
-/// answer is `failure` where the text is no call, or where its schema or its policy cannot be read. It fails where memory is refused.
+/// Answers a call that asks for typed conditions, an object of `schema`, `policy` and perhaps
+/// `validationSettings`, by a text of JSON: whether the policy is accepted, its errors, and then
+/// each environment with its condition in Cedar's own form of JSON. The answer is `failure` if the
+/// text is no call, or if its schema or its policy cannot be read. It fails if memory is refused.
 pub fn conditions_call(alloc: Global, call: &str) -> Result<String, AllocError> {
-    // (a function that made the boxes and handed them out would hide what they are)
+    // (the boxes are made here, because a function that returned them would hide their checks)
     let checks = Checks {
         ip: Box::new(alloc, Constructor::Ip.check(alloc))?,
         decimal: Box::new(alloc, Constructor::Decimal.check(alloc))?,
@@ -143,7 +146,7 @@ fn read_call(
     }
 }
 
-/// The mode of these settings, which has to be one that promises something of evaluation.
+/// The mode of these settings, which must be one that promises something of evaluation.
 fn sound_mode(mode: ValidationMode, settings: Option<&Value>) -> Result<ValidationMode, FormError> {
     match (mode, settings) {
         (ValidationMode::Partial, Some(settings)) => {
@@ -203,7 +206,7 @@ fn add_condition(
     answer.end_object()
 }
 
-/// Adds the members of an environment. The slots have types where the policy is a template.
+/// Adds the members of an environment. The slots have types if the policy is a template.
 fn add_environment(
     alloc: Global,
     answer: &mut Answer,

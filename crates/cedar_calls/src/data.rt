@@ -9,9 +9,10 @@ use cedar_types::base::ValidatorSchema;
 use cedar_verdicts::data::{DataKind, judge_data};
 use std::alloc::{AllocError, Global};
 
-/// Answers a call that checks data, an object of `schema` and perhaps `entities` and `request`, by a text of JSON: of each part that
-/// is there, whether it conforms to the schema, and its mistakes, whose places are in that part. The answer is `failure` where the
-/// text is no call, or the schema cannot be read. It fails where memory is refused.
+/// Answers a call that checks data, an object of `schema` and perhaps `entities` and `request`, by
+/// a text of JSON. It tells of each part that the call has, whether the part conforms to the
+/// schema, and its mistakes, whose places are in that part. The answer is `failure` if the text is
+/// no call, or if the schema cannot be read. It fails if memory is refused.
 pub fn check_data_call(alloc: Global, call: &str) -> Result<String, AllocError> {
     match answer_of(alloc, call) {
         Ok(answer) => Ok(answer),
@@ -38,7 +39,7 @@ fn answer_of(alloc: Global, call: &str) -> Result<String, FormError> {
     Ok(written(alloc, &entities, &request)?)
 }
 
-/// What is said of a part of a call, if it is there.
+/// The verdict on a part of a call, if the call has the part.
 fn judged(
     alloc: Global,
     schema: &ValidatorSchema,

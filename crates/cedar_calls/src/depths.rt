@@ -1,4 +1,4 @@
-// How deep conditions are.
+// Depths of conditions.
 use cedar_types::base::{Expr, Template};
 use std::alloc::{AllocError, Global};
 
@@ -10,8 +10,8 @@ pub fn is_within(alloc: Global, policy: &Template, depth: u32) -> Result<bool, A
     }
 }
 
-/// Whether at most so many nodes stand inside each other in an expression. It goes down by one generation of nodes after another, so
-/// it takes no stack for the depth.
+/// Whether at most `depth` nodes stand inside each other in an expression. The walk goes down by
+/// one generation of nodes after another, so the depth takes no stack.
 fn has_depth_within(alloc: Global, expr: &Expr, depth: u32) -> Result<bool, AllocError> {
     let mut generation = Vec::new(alloc);
     generation.push(expr)?;

@@ -13,14 +13,14 @@ use std::rc::RcStr;
 /// A typed expression.
 type Typed = Expr<Option<CedarType>>;
 
-/// What is still to write.
+/// A step that the writer has still to write.
 #[derive(Clone, Copy)]
 enum Step<'a> {
     /// An expression.
     Node(&'a Typed),
-    /// `a has x.y` of the first so many attributes.
+    /// `a has x.y` with the first attribute of the chain and so many behind it.
     Has(&'a Typed, &'a AttrChain, usize),
-    /// `a.x.y` of the first so many attributes.
+    /// `a.x.y` with the first attribute of the chain and so many behind it.
     Path(&'a Typed, &'a AttrChain, usize),
     /// The beginning of an expression of this form.
     Begin(&'a str),
@@ -32,11 +32,11 @@ enum Step<'a> {
     EndList,
 }
 
-/// Writes expressions. What is still to write lies on the heap, so the stack does not grow with the depth of an expression.
+/// Writes expressions. Their depth takes no stack, because the steps to write lie on the heap.
 #[derive(Drop)]
 pub struct ExpressionWriter<'a> {
     alloc: Global,
-    /// The last comes next.
+    /// The writer takes the last step first.
     steps: Vec<Step<'a>>,
 }
 
@@ -119,7 +119,7 @@ impl<'a> ExpressionWriter<'a> {
         }
     }
 
-    /// Begins an expression of this form, and adds that it ends behind what is put on the steps then.
+    /// Begins an expression of this form, which ends behind the members put on the steps next.
     fn begin(&mut self, answer: &mut Answer, form: &str) -> Result<(), AllocError> {
         begin_form(answer, form)?;
         self.steps.push(Step::EndObject)?;
@@ -147,8 +147,8 @@ impl<'a> ExpressionWriter<'a> {
         self.put("if", Step::Node(test))
     }
 
-    /// Writes an `if` that its test decides, as `if test || true then branch else false`. Typing leaves one branch of it, in the
-    /// place of both, and 64 nested ones would be 2^64 copies.
+    /// Writes an `if` that its test decides, as `if test || true then branch else false`. Typing
+    /// leaves one branch of it, in the place of both, and 64 nested ones would be 2^64 copies.
     fn write_decided(
         &mut self,
         answer: &mut Answer,
@@ -252,8 +252,7 @@ impl<'a> ExpressionWriter<'a> {
         Ok(())
     }
 
-    /// Writes that an expression has the first attribute of a chain, and behind it so many others: `a has x && a.x has y`, since
-    /// Cedar's form of JSON knows one attribute at a time.
+    /// Writes `a has x && a.x has y`, because Cedar's form of JSON has no chains of attributes.
     fn write_has(
         &mut self,
         answer: &mut Answer,
@@ -269,7 +268,7 @@ impl<'a> ExpressionWriter<'a> {
         self.put("left", Step::Has(base, chain, before))
     }
 
-    /// Puts on the steps that what so many attributes behind the first lead to has the next one.
+    /// Puts the chain's last test on the steps: of the value behind the first and `before` others.
     fn put_last_has(
         &mut self,
         base: &'a Typed,
@@ -283,7 +282,7 @@ impl<'a> ExpressionWriter<'a> {
         self.put("right", Step::Begin("has"))
     }
 
-    /// Writes `a.x.y`: the first attribute of a chain, and so many behind it.
+    /// Writes `a.x.y`: the first attribute of a chain, and `count` attributes behind it.
     fn write_path(
         &mut self,
         answer: &mut Answer,

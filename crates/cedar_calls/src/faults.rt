@@ -1,11 +1,11 @@
-// Why a call is not answered.
+// Faults of a call that is not answered.
 use cedar_findings::faults::{TextFault, Written};
 use cedar_findings::json_faults::form_fault;
 use cedar_json::FormError;
 use cedar_types::base::Loc;
 use std::alloc::{AllocError, Global};
 
-/// The only fault of a call that is none. It fails where it was memory that was refused.
+/// The only fault of a text that is no call. It fails if the error is refused memory.
 pub fn only_fault(
     alloc: Global,
     call: &str,

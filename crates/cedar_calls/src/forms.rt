@@ -1,9 +1,10 @@
-// The forms of expressions in Cedar's own form of JSON: their names, and those that are written at once.
+// The forms of expressions in Cedar's own form of JSON: their names, and those that are written at
+// once.
 use crate::writer::Answer;
 use cedar_types::base::{AttrChain, BinaryOp, Literal, PatternElem, SlotId, UnaryOp, Var};
 use std::alloc::{AllocError, Global};
 
-/// The attribute of a chain that stands behind the first and so many others.
+/// The attribute of a chain that stands behind the first and `before` others.
 pub fn attribute_behind(chain: &AttrChain, before: usize) -> &str {
     match chain.rest.get(before) {
         Some(attribute) => attribute.as_str(),

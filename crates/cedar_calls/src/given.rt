@@ -6,25 +6,25 @@ use std::alloc::{AllocError, Global};
 use std::collections::{BTreeMap, BTreeSet};
 use std::rc::RcStr;
 
-/// The place of what has none in the text of a policy.
+/// The place of an element that has none in the text of a policy.
 pub(crate) const NOWHERE: Loc = Loc { start: 0, end: 0 };
 
-/// A policy of a call. The places in it are in its own text or, where it is JSON, in its own object.
+/// A policy of a call. Its places are in its own text or, if it is JSON, in its own object.
 #[derive(Drop)]
 pub struct Given {
     pub policy: Template,
-    /// The text that hints take their examples from; empty where the policy is JSON.
+    /// The text that hints take their examples from; empty if the policy is JSON.
     pub examples: RcStr,
 }
 
-/// What was read of the policies of a call so far.
+/// The policies of a call that were read so far.
 #[derive(Drop)]
 pub struct GivenPolicies {
     pub policies: Vec<Given>,
-    /// The faults of those that cannot be judged.
+    /// The faults of the policies that cannot be judged.
     pub faults: Vec<TextFault>,
     pub(crate) ids: BTreeSet<RcStr>,
-    /// At which of `policies` each template is.
+    /// The index in `policies` of each template.
     pub(crate) templates: BTreeMap<RcStr, usize>,
 }
 
@@ -44,7 +44,7 @@ impl GivenPolicies {
         self.policies.get(*at)
     }
 
-    /// Adds why the policy of this id cannot be judged.
+    /// Adds a fault: the reason that the policy of this id cannot be judged.
     pub(crate) fn refuse(
         &mut self,
         alloc: Global,

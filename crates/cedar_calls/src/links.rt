@@ -1,4 +1,4 @@
-//! Links of a call: what each binds the slots of its template to.
+//! Links of a call: each binds slots of its template to entities.
 ghost use Rattle.std.specs.Prelude.{◌≡◌, ◌&&◌, true, is_some, IfOk, IfSome};
 ghost use Rattle.cedar_types.specs.Templates.{reference_of, scope_of, template_of};
 ghost use Rattle.cedar_verdicts.specs.Links.{bound, filled, fits, fits_in, linked};
@@ -17,7 +17,7 @@ const NO_TEMPLATE: &str = "there is no template of its `templateId`";
 
 const UNFIT: &str = "the link does not bind the slots of its template";
 
-/// What a link binds slots to.
+/// The entities to which a link binds slots.
 #[derive(Drop)]
 pub struct Bound {
     pub principal: Option<EntityUID>,
@@ -25,7 +25,8 @@ pub struct Bound {
 }
 
 impl Bound {
-    /// What an object binds the keys `?principal` and `?resource` to. It fails at another key, and at a value that is no id.
+    /// Reads an object that binds the keys `?principal` and `?resource`. It fails at another key,
+    /// and at a value that is no id.
     pub fn read(alloc: Global, values: &Value) -> Result<Bound, FormError> {
         let object = Object::of(values)?;
         object.allow(&["?principal", "?resource"])?;
@@ -37,8 +38,9 @@ impl Bound {
         })
     }
 
-    /// The template with its slots bound, under the id of the link (clause `linked`). There is none exactly where the link does not
-    /// bind the slots that the template has (clause `exact`). Where memory is refused, the answer is an `AllocError`.
+    /// The template with its slots bound, under the id of the link (clause `linked`). There is none
+    /// exactly if the link does not bind the slots that the template has (clause `exact`). If
+    /// memory is refused, the answer is an `AllocError`.
     pub fn link(
         &self,
         alloc: Global,
@@ -64,7 +66,7 @@ impl Bound {
     }
 }
 
-/// Binds the slot of a constraint. Whether it has one where it is bound, and none where it is not.
+/// Binds the slot of a constraint. Whether there are both a slot and an id for it, or neither.
 fn bind(
     constraint: &mut PrincipalOrResourceConstraint,
     uid: &Option<EntityUID>,
@@ -97,7 +99,7 @@ fn fill(reference: &mut EntityReference, uid: &Option<EntityUID>) -> Result<bool
     Ok(!is_slot)
 }
 
-/// The id of a value, without its place, because that is none in the text of the template.
+/// The id of a value, without its place, because the place is not in the text of the template.
 fn read_uid(alloc: Global, value: Option<&Value>) -> Result<Option<EntityUID>, FormError> {
     let Some(value) = value else {
         return Ok(None);
@@ -134,7 +136,8 @@ impl PolicyReader<'_, '_> {
         Ok(())
     }
 
-    /// The policy that the link of an id makes of a template, which is named by its own id, or why it makes none.
+    /// The policy that the link of an id makes of a template, which the link names by the
+    /// template's id, or the reason that it makes none.
     fn link(
         &self,
         given: &GivenPolicies,

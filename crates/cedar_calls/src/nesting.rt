@@ -1,22 +1,23 @@
-// How deep texts in Cedar's own syntax nest, before they are read: reading takes stack for it.
+// Nesting of texts in Cedar's own syntax, before they are read: reading takes stack for it.
 use cedar_json::{Object, Value, ValueKind};
 use std::alloc::{AllocError, Global};
 
-/// How deep a text may nest that fits a thread that has 1 MiB of stack while it is read.
+/// The nesting of a text that fits a thread of 1 MiB of stack while it is read.
 const MOST: u32 = 400;
 
-/// How many conditions of a policy fit it.
+/// The number of conditions of a policy that fits such a thread.
 const MOST_CONDITIONS: u32 = 200;
 
-/// Whether a text nests too deep to be read, where conditions may be so deep. Each node of a condition nests at most twice, by an
-/// operator and by parentheses.
+/// Whether a text nests too deep to be read, if conditions may have this depth. Each node of a
+/// condition nests at most twice, by an operator and by parentheses.
 pub fn is_too_nested(alloc: Global, text: &str, depth: u32) -> Result<bool, AllocError> {
     let most = MOST.max(depth.saturating_mul(2));
     Ok(nesting_of(alloc, text)? > most)
 }
 
-/// Whether a policy in Cedar's form of JSON has too many conditions to be read, where conditions may be so deep: each nests those
-/// before it one deeper. Within a condition JSON itself nests no deeper than is read.
+/// Whether a policy in Cedar's form of JSON has too many conditions to be read, if conditions may
+/// have this depth: each nests those before it one deeper. Within a condition JSON itself nests no
+/// deeper than is read.
 pub fn has_too_many_conditions(policy: Object<'_>, depth: u32) -> bool {
     match policy.get("conditions") {
         Some(
@@ -29,7 +30,7 @@ pub fn has_too_many_conditions(policy: Object<'_>, depth: u32) -> bool {
     }
 }
 
-/// Where a character stands.
+/// The kind of text in which a character stands.
 #[derive(Clone, Copy, PartialEq, Eq)]
 enum Place {
     Code,
@@ -39,13 +40,14 @@ enum Place {
     Escape,
 }
 
-/// What was met of an expression so far, in one pair of brackets: how many operators chain its operands, and how deep the deepest
-/// of these is. Each operator and each pair of brackets counts at least once, so the tree is no deeper.
+/// The nesting of an expression so far, in one pair of brackets: the number of operators that chain
+/// its operands, and the depth of the deepest operand. Each operator and each pair of brackets
+/// counts at least once, so the tree is no deeper.
 #[derive(Clone, Copy)]
 struct Group {
     /// The words `if`, and the operators `||`.
     alternatives: u32,
-    /// The operators `&&` since the last of these.
+    /// The operators `&&` since the last of `alternatives`.
     conjunctions: u32,
     /// Other operators, and brackets, since the last `&&`.
     operators: u32,
@@ -107,7 +109,8 @@ impl Group {
         }
     }
 
-    /// Takes in a character of code that is of no word, no quote and no bracket, and stands behind another.
+    /// Takes in a character of code that is of no word, no quote and no bracket, and stands behind
+    /// another.
     fn take_sign(&mut self, before: char, c: char) {
         match c {
             '&' if before == '&' => {
@@ -130,7 +133,7 @@ impl Group {
 /// Reads characters, and keeps the groups of brackets that are open.
 #[derive(Drop)]
 struct Scan {
-    /// Those around the innermost.
+    /// The groups around the innermost one.
     around: Vec<Group>,
     group: Group,
     place: Place,
@@ -190,7 +193,7 @@ impl Scan {
         self.group = outer;
     }
 
-    /// How deep all nests.
+    /// The nesting of the whole text.
     fn finish(mut self) -> u32 {
         for _ in 0..self.around.len() {
             self.close();
@@ -200,7 +203,8 @@ impl Scan {
     }
 }
 
-/// How deep a text of policies nests at most: no tree that is read of it is deeper. It fails where memory is refused.
+/// The most that a text of policies nests: no tree that is read of it is deeper. It fails if memory
+/// is refused.
 fn nesting_of(alloc: Global, text: &str) -> Result<u32, AllocError> {
     let mut scan = Scan {
         around: Vec::new(alloc),

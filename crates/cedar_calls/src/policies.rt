@@ -1,4 +1,5 @@
-// Reads the policies of a call: a text of all, a list, an object by ids, or a policy set with static policies, templates and links.
+// Reads the policies of a call: a text of all, a list, an object by ids, or a policy set with
+// static policies, templates and links.
 use crate::depths::is_within;
 use crate::faults::policy_fault;
 use crate::given::{Given, GivenPolicies, NOWHERE};
@@ -28,14 +29,14 @@ const NO_TEMPLATE: &str = "there is no template of its `templateId`";
 
 const UNFIT: &str = "the link does not bind the slots of its template";
 
-/// Which part of a policy set a policy is of.
+/// The part of a policy set that a policy is of.
 #[derive(Clone, Copy, PartialEq, Eq)]
 pub enum Part {
     /// A static policy, or a link: it has no slot.
     Policy,
-    /// A template: it has one.
+    /// A template: it has a slot.
     Template,
-    /// Either.
+    /// A static policy, a link or a template.
     Any,
 }
 
@@ -46,12 +47,13 @@ pub struct PolicyReader<'c, 'f> {
     /// The text of the call.
     pub call: &'c str,
     pub functions: &'f ExtensionSchemas,
-    /// How deep a condition may be.
+    /// The depth that a condition may have.
     pub depth: u32,
 }
 
 impl PolicyReader<'_, '_> {
-    /// The policies of a value, or the fault of its form. A policy that is none is among the faults of the answer.
+    /// Reads the policies of a value, or gives the fault of its form. An element that is no policy
+    /// is among the faults of the answer.
     pub fn read_all(&self, value: &Value) -> Result<GivenPolicies, FormError> {
         let mut given = GivenPolicies::new(self.alloc);
         let ValueKind::Object(_) = &value.kind else {
@@ -137,7 +139,8 @@ impl PolicyReader<'_, '_> {
         Ok(())
     }
 
-    /// The policies of a text in Cedar's own syntax, or the fault that it has as a whole. One that nests too deep is not read.
+    /// The policies of a text in Cedar's own syntax, or the fault that the text has as a whole. A
+    /// text that nests too deep is not read.
     fn begin<'t>(&self, text: &'t RcStr) -> Result<Result<Policies<'t>, TextFault>, AllocError> {
         if is_too_nested(self.alloc, text.as_str(), self.depth)? {
             return Ok(Err(self.fault(TOO_NESTED)?));
@@ -208,7 +211,8 @@ impl PolicyReader<'_, '_> {
         }
     }
 
-    /// The only policy of these, or a fault where there is none, more than one, or the first cannot be read.
+    /// The only policy of these, or a fault if there is none, if there is more than one, or if the
+    /// first cannot be read.
     fn only_of(
         &self,
         mut policies: Policies<'_>,
@@ -233,7 +237,7 @@ impl PolicyReader<'_, '_> {
         })
     }
 
-    /// Adds a policy of this part under this id, or why it cannot be judged.
+    /// Adds a policy of this part under this id, or the reason that it cannot be judged.
     pub fn add(
         &self,
         given: &mut GivenPolicies,
@@ -258,7 +262,7 @@ impl PolicyReader<'_, '_> {
         Ok(())
     }
 
-    /// Why a policy cannot be judged as one of this part, if it cannot.
+    /// The reason that a policy cannot be judged as one of this part, if there is one.
     fn why_refused(
         &self,
         policy: &Template,

@@ -6,8 +6,9 @@ use cedar_types::base::{Loc, ValidatorSchema};
 use cedar_verdicts::schemas::{SchemaFault, json_schema_or_faults, schema_or_faults};
 use std::alloc::{AllocError, Global};
 
-/// The schema that a value of this call declares, or its faults: a text in Cedar's own syntax, whose faults have their places in it,
-/// or an object in Cedar's form of JSON, whose faults have theirs in the object.
+/// The schema that a value of this call declares, or its faults: a text in Cedar's own syntax,
+/// whose faults have their places in it, or an object in Cedar's form of JSON, whose faults have
+/// theirs in the object.
 pub fn schema_of(
     alloc: Global,
     call: &str,
@@ -40,7 +41,7 @@ fn schema_of_text(
     Ok(Err(faults))
 }
 
-/// What stands at a place of a call.
+/// The text at a place of a call; empty if the call has no such place.
 pub fn text_at(call: &str, place: Loc) -> &str {
     call.get(place.start..place.end).unwrap_or("")
 }

@@ -1,11 +1,12 @@
-//! How a call asks for policies to be judged.
+//! Settings of a call: how it asks for policies to be judged.
 use cedar_json::{FormError, Object, Value, ValueKind, expected, text_of};
 use cedar_types::base::ValidationMode;
 
-/// How deep a condition may be where the call does not say it. A call then fits a thread that has 1 MiB of stack.
+/// The depth that a condition may have if the call does not say it. A call then fits a thread that
+/// has 1 MiB of stack.
 pub const DEFAULT_DEPTH: u32 = 100;
 
-/// What the settings of a call say.
+/// The settings that a call asks for.
 #[derive(Clone, Copy, PartialEq, Eq, Debug)]
 pub struct Asked {
     pub mode: ValidationMode,
@@ -13,13 +14,14 @@ pub struct Asked {
     pub level: Option<u32>,
     /// Whether the answer says more than Cedar's own does.
     pub has_details: bool,
-    /// How many nodes of a condition may stand inside each other.
+    /// The number of nodes of a condition that may stand inside each other.
     pub depth: u32,
 }
 
 impl Asked {
-    /// What these settings say. Where a key is left out, the mode is Strict, there is no level, no details are asked for, and the
-    /// depth is [`DEFAULT_DEPTH`]. It fails at a key that there is not, and at a value that it cannot have.
+    /// Reads these settings. If a key is left out, the mode is Strict, there is no level, no
+    /// details are asked for, and the depth is [`DEFAULT_DEPTH`]. It fails at a key that does not
+    /// exist, and at a value that the key cannot have.
     pub fn read(settings: Option<&Value>) -> Result<Asked, FormError> {
         let mut asked = Asked {
             mode: ValidationMode::Strict,

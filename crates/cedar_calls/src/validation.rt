@@ -1,4 +1,5 @@
-//! The call that validates policies by a schema: Cedar's `ValidationCall`, which a `ValidationAnswer` answers.
+//! The call that validates policies by a schema: Cedar's `ValidationCall`, which a
+//! `ValidationAnswer` answers.
 use crate::answered::judge_all;
 use crate::answers::{failure, success};
 use crate::faults::{add_all, only_fault};
@@ -25,8 +26,9 @@ pub struct ValidationCall {
 }
 
 impl ValidationCall {
-    /// Reads a call, an object of `schema`, `policies` and perhaps `validationSettings`, or says all faults of its schema and its
-    /// policies, or the first fault of its form. Calls in policies are of these functions. It fails where memory is refused.
+    /// Reads a call, an object of `schema`, `policies` and perhaps `validationSettings`, or gives
+    /// all faults of its schema and its policies, or the first fault of its form. Calls in policies
+    /// are of these functions. It fails if memory is refused.
     pub fn read(
         alloc: Global,
         functions: &ExtensionSchemas,
@@ -38,7 +40,7 @@ impl ValidationCall {
         }
     }
 
-    /// The answer of the call, as a text of JSON. It fails where memory is refused.
+    /// The answer of the call, as a text of JSON. It fails if memory is refused.
     pub fn answer(self, alloc: Global, functions: &ExtensionSchemas) -> Result<String, AllocError> {
         let ValidationCall {
             asked,
@@ -93,10 +95,11 @@ fn read_call(
     }))
 }
 
-/// Answers a call that validates policies, a text of JSON, by a text of JSON. There is an answer for each text: `failure` where it
-/// is no call, or where its schema or one of its policies cannot be read. It fails where memory is refused.
+/// Answers a call that validates policies, a text of JSON, by a text of JSON. There is an answer
+/// for each text: `failure` if it is no call, or if its schema or one of its policies cannot be
+/// read. It fails if memory is refused.
 pub fn validate_call(alloc: Global, call: &str) -> Result<String, AllocError> {
-    // (a function that made the boxes and handed them out would hide what they are)
+    // (the boxes are made here, because a function that returned them would hide their checks)
     let checks = Checks {
         ip: Box::new(alloc, Constructor::Ip.check(alloc))?,
         decimal: Box::new(alloc, Constructor::Decimal.check(alloc))?,

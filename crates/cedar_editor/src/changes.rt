@@ -124,7 +124,8 @@ pub fn keep_after(
     policies: &mut Vec<PlacedPolicy>,
 ) -> Result<(), AllocError>
     ensures { OnOk result (map placed_policy policies.new.items
-        ≡ map placed_policy policies.old.items ++ map (moved_policy old_end new_end) (drop last old.now)) }
+        ≡ map placed_policy policies.old.items ++ map (moved_policy old_end new_end)
+        (drop last old.now)) }
 {
     let kept = &old[last.min(old.len())..];
     for placed in kept {

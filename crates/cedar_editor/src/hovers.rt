@@ -8,8 +8,8 @@ use cedar_types::base::{ArgumentCheck, Loc};
 use cedar_verdicts::settings::Settings;
 use std::alloc::{AllocError, Global};
 
-/// The most types of a part that are shown.
-const MAX_SHOWN: usize = 8;
+/// The most types of a part that are shown: few, because a hover is a small window.
+const MAX_TYPES_SHOWN: usize = 8;
 
 /// The most characters of a part, or of a declaration, that are shown.
 const MAX_TEXT: usize = 400;
@@ -99,12 +99,12 @@ fn push_known(shown: &mut String, typed: &TypedPart) -> Result<(), AllocError> {
 
 /// Adds the types of a part, each with its first environment.
 fn push_types(shown: &mut String, types: &[TypedPart]) -> Result<(), AllocError> {
-    for typed in types.iter().take(MAX_SHOWN) {
+    for typed in types.iter().take(MAX_TYPES_SHOWN) {
         let ty = &typed.ty;
         write!(shown, "- `{ty}`")?;
         push_environment(shown, typed)?;
     }
-    let others = types.len().saturating_sub(MAX_SHOWN);
+    let others = types.len().saturating_sub(MAX_TYPES_SHOWN);
     if others > 0 {
         writeln!(shown, "- {others} more types")?;
     }

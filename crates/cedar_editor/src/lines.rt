@@ -133,7 +133,8 @@ impl Lines {
     /// Whether a byte stands behind a line.
     fn is_behind(&self, line: usize, byte: usize) -> bool
         ensures { IsTrue result
-            ↔ ((line < length self.now.starts.items) × (slice_index self.now.starts.items line ≤ byte)) }
+            ↔ ((line < length self.now.starts.items) ×
+            (slice_index self.now.starts.items line ≤ byte)) }
     {
         let starts = self.starts.as_slice();
         line < starts.len() && starts[line] <= byte

@@ -1,5 +1,5 @@
-//! Declarations in the text of a schema, with their places. They are found by words and marks alone, so a fault elsewhere in
-//! the text hides none of them.
+//! Declarations in the text of a schema, with their places. They are found by words and marks
+//! alone, so a fault elsewhere in the text hides none of them.
 use crate::tokens::{Token, TokenKind, token_from};
 use cedar_types::base::Loc;
 use std::alloc::{AllocError, Global};
@@ -22,7 +22,8 @@ pub struct Declared {
     pub place: Loc,
     /// The place of the declaration, up to its `;`.
     pub whole: Loc,
-    /// The byte at which the type with the attributes begins; for an action, the type of its context.
+    /// The byte at which the type with the attributes begins; for an action, the type of its
+    /// context.
     pub body: Option<usize>,
 }
 
@@ -35,7 +36,8 @@ struct Reader<'a> {
     declared: Vec<Declared>,
 }
 
-/// The names that a text declares, in its order. If memory is refused, the answer is an `AllocError`.
+/// The names that a text declares, in its order. If memory is refused, the answer is an
+/// `AllocError`.
 pub fn outline(alloc: Global, text: &str) -> Result<Vec<Declared>, AllocError> {
     let mut reader = Reader {
         text,
@@ -163,7 +165,7 @@ struct Scan {
     body: Option<usize>,
 }
 
-/// The scan of a declaration behind its names, up to its `;`, or to where it ends without one.
+/// The scan of a declaration behind its names, up to its `;`, or to its end without one.
 fn scan_declaration(text: &str, from: usize, kind: DeclaredKind) -> Scan {
     let mut scan = Scan {
         end: from,
@@ -197,8 +199,8 @@ fn begins_declaration(text: &str, token: Token<'_>) -> bool {
     is_word && is_own_name(token_from(text, token.place.end))
 }
 
-/// The byte at which the type with the attributes begins, if this token leads to it. `depth` brackets are open around the
-/// token.
+/// The byte at which the type with the attributes begins, if this token leads to it. `depth`
+/// brackets are open around the token.
 fn body_at(text: &str, kind: DeclaredKind, depth: usize, token: Token<'_>) -> Option<usize> {
     match (kind, depth, token.text) {
         (DeclaredKind::EntityType, 0, "{") => Some(token.place.start),

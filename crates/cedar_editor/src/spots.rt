@@ -5,7 +5,7 @@ use std::alloc::{AllocError, Global};
 /// The most parts that may stand inside each other: more than reading admits.
 const MAX_STEPS: usize = 1000;
 
-/// A guard: a test whose value is known where a part is evaluated.
+/// A guard: a test whose value is known at the place of a part.
 #[derive(Clone, Copy)]
 pub enum Guard<'a> {
     /// This test is true.
@@ -19,8 +19,8 @@ pub enum Guard<'a> {
 pub struct Spot<'a> {
     pub part: &'a Expr,
     pub guards: Vec<Guard<'a>>,
-    /// The smallest part around the spot that is an operand of `&&`, `||` or `if`; the whole condition if there is none. A test
-    /// put before it guards the spot.
+    /// The smallest part around the spot that is an operand of `&&`, `||` or `if`; the whole
+    /// condition if there is none. A test put before it guards the spot.
     pub operand: &'a Expr,
 }
 
@@ -96,8 +96,9 @@ fn has_guards(whole: &Expr) -> bool {
     )
 }
 
-/// The guard that an expression puts before one of its parts, if it has one: the left operand is true before the right one of
-/// `&&`, and false before that of `||`; the test of an `if` is true before `then`, and false before `else`.
+/// The guard that an expression puts before one of its parts, if it has one: the left operand is
+/// true before the right one of `&&`, and false before that of `||`; the test of an `if` is true
+/// before `then`, and false before `else`.
 fn guard_before<'a>(whole: &'a Expr, next: &Expr) -> Option<Guard<'a>> {
     match &whole.kind {
         ExprKind::And(left, _) if left.loc != next.loc => Some(Guard::True(left)),

@@ -1,4 +1,4 @@
--- Without one of the premises, a policy that is left out was what allowed the request.
+-- A policy that was left out allowed the request, if one of the premises is missing.
 use Rattle.std.proofs.Common.{◌≡◌, inl, true, true≢false, [], ◌∷◌, refl, sym, ◌∙◌}
 use Rattle.cedar_types.specs.declared.base.names.slots.SlotId.{SlotId}
 use Rattle.cedar_types.specs.declared.base.types.ValidationMode.TheVariants.{Strict}

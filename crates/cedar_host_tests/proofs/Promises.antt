@@ -52,7 +52,7 @@ meeting_over request entities = record {
   functions = meeting_conforms.functions;
 }
 
--- functions that give nothing, and compare what a table compares
+-- functions that return nothing, and compare the types that a table compares
 abbrev silent : ExtensionTable → Interpretation
 silent table = record { calls = []; overloaded_types = table.overloaded_types; less = []; less_or_equal = [] }
 

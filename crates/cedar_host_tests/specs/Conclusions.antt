@@ -1,5 +1,6 @@
--- Conclusions that a host draws from laws of responses and of loaded entities. Each needs the whole of a law: it does not follow
--- where the law says less, for example of permits alone, or of the store alone.
+-- Conclusions that a host draws from laws of responses and of loaded entities. Each needs the whole
+-- of a law: it does not follow if the law says less, for example of permits alone, or of the store
+-- alone.
 use Rattle.std.specs.Prelude.{◌≡◌, ℕ, false, List, [], ◌∷◌}
 use Rattle.cedar_types.specs.declared.base.templates.effects.Effect.TheVariants.{Forbid}
 use Rattle.cedar_types.specs.Names.{Text}
@@ -22,7 +23,7 @@ NoTypeFailures =
     → (world : World) → AreWellFormed ps → IsConforming b world
     → (name : Text) → IsOneOf (record { policy = name; failure = TypeFailure }) (response world ps).erring → ⊥
 
--- an impossible forbid is not among the satisfied ones
+-- an impossible forbid is not among the satisfied policies
 abbrev pub ImpossibleForbidsAreNotSatisfied : Type 0
 ImpossibleForbidsAreNotSatisfied =
     (b : Basis) (p : LinkedPolicy) → p.effect ≡ Forbid → IsNeverTrue b p.template → has_external b.schema ≡ false
@@ -37,7 +38,7 @@ LoadedPartsAgree =
     → (one other : Store) → IsLoadedFor world steps one → IsLoadedFor world steps other
     → eval (with_store world one) (condition_of t) ≡ eval (with_store world other) (condition_of t)
 
--- and an authoriser responds alike
+-- over two parts that were loaded for a request, an authoriser responds alike
 abbrev pub LoadedPartsRespondAlike : Type 0
 LoadedPartsRespondAlike =
     (b : Basis) (steps : ℕ) (ps : List LinkedPolicy) → NeedSliceAlone b steps ps → has_external b.schema ≡ false

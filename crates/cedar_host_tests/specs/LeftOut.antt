@@ -1,5 +1,5 @@
--- Each premise is needed for an impossible policy to be left out: without it, a permit that is left out was what allowed the
--- request. And its errors go with it.
+-- Each premise is needed for an impossible policy to be left out: without it, the permit that is
+-- left out allowed the request. Errors of a policy that is left out go with it.
 use Rattle.std.specs.Prelude.{◌≡◌, false, [], ◌∷◌, codes}
 use Rattle.cedar_types.specs.declared.base.templates.effects.Effect.TheVariants.{Permit}
 use Rattle.cedar_types.specs.declared.base.types.ValidationMode.TheVariants.{Strict}
@@ -23,22 +23,22 @@ use Rattle.cedar_host.specs.Safety.{IsNeverTrue}
 abbrev pub permits : PlainTemplate → Slots → LinkedPolicy
 permits t slots = record { name = codes "p"; effect = Permit; template = t; slots = slots }
 
--- a policy that is never true, and that may not be left out all the same
+-- a policy that is never true, but that may not be left out
 pub record IsNeededBy (b : Basis) (t : PlainTemplate) (slots : Slots) : Type 0 where
   pub never_true : IsNeverTrue b t
   pub needed : MayBeLeftOut b (permits t slots) → ⊥
 
--- `principal is Robot`, where users greet users
+-- `principal is Robot`, by a schema in which users greet users
 abbrev pub robots_alone : PlainTemplate
 robots_alone = policy_when (is_type tt principal robot)
 
 pub record LeftOutPremises : Type 0 where
   -- a policy that is true
   pub never_true : MayBeLeftOut (sample_basis Strict) (permits true_policy meeting_slots) → ⊥
-  -- one whose slots stand in the rest
+  -- a policy whose slots stand in the rest
   pub closed : has_external sample_schema ≡ false
   pub slots_in_scope : IsNeededBy (sample_basis Strict) robots_template robot_slots
-  -- one that is about external types
+  -- a policy about external types
   pub in_scope : SlotsInScopeAlone (policy_when guest_has_role)
   pub not_external : IsNeededBy (guest_basis Strict) (policy_when guest_has_role) meeting_slots
   -- a world that does not conform, in which a robot greets

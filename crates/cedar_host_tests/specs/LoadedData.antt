@@ -1,4 +1,5 @@
--- Which entries of a store need to conform where a policy is evaluated over a part of it: those of the part, and the actions.
+-- Entries of a store that need to conform if a policy is evaluated over a part of the store: those
+-- of the part, and the actions.
 use Rattle.std.specs.Prelude.{◌≡◌, true, ◌∷◌, codes}
 use Rattle.cedar_types.specs.declared.base.types.ValidationMode.TheVariants.{Strict}
 use Rattle.cedar_types.specs.Names.{Uid}
@@ -17,18 +18,18 @@ use Rattle.cedar_host.specs.LoadedOutcomes.{ConformsAsLoaded}
 use Rattle.cedar_host.specs.Slices.{NeedsSliceAlone}
 use Rattle.cedar_host_tests.specs.Promises.{if_active}
 
--- a user of whom a text is stored where a boolean should be
+-- a user whose boolean attribute is stored as a text
 abbrev pub in_words : Entity
 in_words = record stored_alice { attributes = more_entries (codes "active") (words (codes "yes")) no_entries }
 
 abbrev pub zed : Uid
 zed = user_named (codes "zed")
 
--- alice reads the home page, and this is stored of zed, who is not reached
+-- a world in which alice reads the home page, and zed, who is not reached, is stored so
 abbrev pub zed_in_words : World
 zed_in_words = record reading { store = (zed, in_words) ∷ wiki_store }
 
--- and this is stored of alice herself
+-- a world in which alice herself is stored so
 abbrev pub alice_in_words : World
 alice_in_words = record reading { store = (alice, in_words) ∷ wiki_store }
 
@@ -40,6 +41,6 @@ pub record LoadedDataExamples : Type 0 where
   pub held : HoldsSlice zed_in_words.request zed_in_words.store 1 (slice_of zed_in_words 1)
   pub fit : ConformsAsLoaded (wiki_basis Strict) zed_in_words (slice_of zed_in_words 1)
   pub is_true : eval (with_store zed_in_words (slice_of zed_in_words 1)) (condition_of if_active) ≡ Gives (VBool true)
-  -- where an entity of the slice does not conform, the policy goes wrong
+  -- the policy goes wrong if an entity of the slice does not conform
   pub wrong_held : HoldsSlice alice_in_words.request alice_in_words.store 1 (slice_of alice_in_words 1)
   pub goes_wrong : IsBooleanOrAllowed (eval (with_store alice_in_words (slice_of alice_in_words 1)) (condition_of if_active)) → ⊥

@@ -7,10 +7,10 @@ abbrev pub between : ℕ → ℕ → Option Loc
 between a b = Some (record { start = a; end = b })
 
 pub record PlaceExamples : Type 0 where
-  -- no place first, then by starts, and then by ends
+  -- the order of places: none first, then by starts, and then by ends
   pub ordered : AreInOrder (None ∷ None ∷ between 1 9 ∷ between 2 3 ∷ between 2 5 ∷ [])
   pub none_behind : AreInOrder (between 1 2 ∷ None ∷ []) → ⊥
   pub earlier_behind : AreInOrder (between 2 3 ∷ between 1 9 ∷ []) → ⊥
   pub shorter_behind : AreInOrder (between 2 5 ∷ between 2 3 ∷ []) → ⊥
-  -- also where one stands between
+  -- a place is out of order behind any later one, not only behind its neighbour
   pub far_behind : AreInOrder (between 2 3 ∷ between 4 5 ∷ between 1 2 ∷ []) → ⊥

@@ -1,5 +1,5 @@
--- What the promises to a host say: policies, reports and typed conditions for which a promise is false. Data and reports are any
--- of which this is said.
+-- Promises to a host: policies, reports and typed conditions for which a promise is false. Each
+-- example holds of all data and of all reports that meet its premises.
 use Rattle.std.specs.Prelude.{◌≡◌, ℕ, true, false, [], ◌∷◌, None}
 use Rattle.std.specs.BTreeMap.{BTreeMap}
 use Rattle.std.specs.declared.alloc.Global.{Global}
@@ -51,15 +51,18 @@ abbrev pub unless_active : PlainTemplate
 unless_active = policy_when (unary tt UnaryOp.Not (active_of principal))
 
 pub record EvaluationExamples : Type 0 where
-  -- a policy that is true keeps the promise, and one that goes wrong breaks it: over any data, whether or not it conforms
+  -- a policy that is true keeps the promise, and one that goes wrong breaks it: over any data,
+  -- whether or not it conforms
   pub safe : (request : Request) (entities : Entities)
       → EvaluatesSafely (sample_basis Strict) request entities true_policy meeting_slots
   pub wrong : (request : Request) (entities : Entities)
       → EvaluatesSafely (sample_basis Strict) request entities wrong_policy meeting_slots → ⊥
-  -- one that needs an entity breaks it in slices of no steps: it is true over the data, and misses the entity in the slice
+  -- a policy that needs an entity breaks the promise in slices of no steps: it is true over the
+  -- data, and misses the entity in the slice
   pub in_slices : (request : Request) (entities : Entities) → IsWorldOfData request entities reading
       → EvaluatesInSlices (wiki_basis Strict) 0 request entities if_active staff_slots → ⊥
-  -- in each mode, all of some policies keep it, so that one which goes wrong breaks it
+  -- several policies keep the promise, in each mode, only if all do, so one that goes wrong breaks
+  -- it
   pub all : (meaning : Unit {0} → Refusals) (v : Validator (Unit {0})) (mode : SoundMode) (steps : ℕ) (p : LinkedTemplate)
       (request : Request) (entities : Entities) → template_in p ≡ wrong_policy
       → AllEvaluateSafely meaning (v, mode, steps, p ∷ []) request entities → ⊥
@@ -67,7 +70,8 @@ pub record EvaluationExamples : Type 0 where
 -- ---- responses
 
 pub record ResponsePromises : Type 0 where
-  -- a policy that is false over the store, and misses an entity in the slice: the decision is the same, and the errors are not
+  -- a policy that is false over the store, and misses an entity in the slice: the decisions are
+  -- equal, and the errors are not
   pub errors : (r : SliceReport) → r.report.is_accepted ≡ true → template_of r.report.policy.now.template ≡ unless_active
       → HaveSameResponses (wiki_basis Strict) 0 (r ∷ []) → ⊥
 
@@ -83,7 +87,7 @@ pub record ConditionPromises : Type 0 where
 
 -- ---- the first premise that is not met
 
--- of a schema with external declarations it is no other than this
+-- a premise that is never the first unmet one, if the schema has external declarations
 abbrev pub IsNotFirst : PremiseFault → Type 0
 IsNotFirst f =
     (schema : ValidatorSchema) (t : Template) (values : BTreeMap SlotId EntityUID) (request : Request) (entities : Entities)

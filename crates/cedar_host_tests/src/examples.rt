@@ -1,4 +1,5 @@
-//! Examples of the promises to a host, on a function that does nothing, and conclusions from laws of responses.
+//! Examples of the promises to a host, on a function that does nothing, and conclusions from laws
+//! of responses.
 ghost use Rattle.cedar_host_tests.specs.Conclusions.{ImpossibleForbidsAreNotSatisfied, LoadedPartsAgree, LoadedPartsRespondAlike, NoTypeFailures};
 ghost use Rattle.cedar_host_tests.specs.LeftOut.{LeftOutPremises};
 ghost use Rattle.cedar_host_tests.specs.LoadedData.{LoadedDataExamples};
@@ -8,7 +9,8 @@ ghost use Rattle.cedar_host_tests.specs.Promises.{ConditionPromises, EvaluationE
 use cedar_host::loaded_outcomes::loaded_is_enough;
 use cedar_host::responses::responses_need_slice_alone;
 
-/// Policies, reports and typed conditions that break a promise to a host; and the premise that is looked at first.
+/// Policies, reports and typed conditions that break a promise to a host; and the premise that is
+/// looked at first.
 pub fn examples_of_promises()
     ensures evaluation { EvaluationExamples }
     ensures responses { ResponsePromises }
@@ -16,8 +18,8 @@ pub fn examples_of_promises()
     ensures unmet { FirstUnmetExamples }
 {}
 
-/// That each premise is needed for an impossible policy to be left out; which entries need to conform where a part of a store
-/// was loaded; and which places stand in the order of a report.
+/// Examples of laws: each premise is needed for an impossible policy to be left out; entries that
+/// need to conform if a part of a store was loaded; and places that stand in the order of a report.
 pub fn examples_of_laws()
     ensures left_out { LeftOutPremises }
     ensures loaded { LoadedDataExamples }

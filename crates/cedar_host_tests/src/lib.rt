@@ -1,6 +1,6 @@
-//! What the host says of a set of policies, in which environments one is safe, its typed conditions,
-//! and what a host that loads slices says and finds; and examples of its promises. They stand apart, since a
-//! crate with tests is proved twice.
+//! Verdicts of a host on a set of policies, the environments in which one is safe, its typed
+//! conditions, and the verdicts and findings of a host that loads slices; and examples of its
+//! promises. They stand apart, because a crate with tests is proved twice.
 #![tactic(auto)]
 
 #[cfg(test)]

@@ -1,4 +1,5 @@
-//! A language server for Cedar policies and schemas, over standard input and output: `cedar-language-server`.
+//! A language server for Cedar policies and schemas, over standard input and output:
+//! `cedar-language-server`.
 #![tactic(auto)]
 
 mod messages;
@@ -58,10 +59,12 @@ fn main(rt: HostRuntime) -> ExitCode {
     }
 }
 
-/// Serves over standard input and output with these extension functions. The answer is the exit status.
+/// Serves over standard input and output with these extension functions. The answer is the exit
+/// status.
 fn serve(rt: &HostRuntime, extensions: &ExtensionSchemas) -> io::Result<u8> {
     let alloc = rt.alloc();
-    // on the heap, because the prover does not cover that a variable of so many parts is dropped
+    // the session lies on the heap, because the prover does not cover the drop of a variable of so
+    // many parts
     let mut session = Box::new(alloc, Session::new(alloc, extensions))?;
     let mut server = Server {
         rt,

@@ -1,4 +1,4 @@
--- Which rows the program's words ask for.
+-- Rows that the program's words ask for.
 use Rattle.std.specs.Prelude.{◌+◌, List, [], ◌∷◌, Option, Some, None, string_bytes, slice_range}
 use Rattle.std.specs.Str.{bytes_eq}
 use Rattle.std.specs.List.{position}
@@ -6,7 +6,7 @@ use Rattle.std.specs.Option.{option_map}
 use Rattle.std.specs.declared.string.String.{String}
 use Rattle.cedar_rows.specs.declared.rows.NamedRow.{NamedRow}
 
--- all of them without a word, the first of that name with one, and none with more
+-- the rows asked for: all without a word, the first of that name with one word, and none with more
 abbrev pub rows_asked : {R A : Type 0} → List (NamedRow R) → List (String A) → Option (List (NamedRow R))
 rows_asked rows [] = Some rows
 rows_asked rows (word ∷ []) =

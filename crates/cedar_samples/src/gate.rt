@@ -1,4 +1,5 @@
-// A gate in front of an authoriser: it admits policies of a file by the schema of a file, and tells why it refuses the others.
+// A gate in front of an authoriser: it admits policies of a file by the schema of a file, and tells
+// why it refuses the others.
 ghost use Rattle.std.specs.Prelude.{IfOk};
 ghost use Rattle.cedar_host.specs.Safety.{sound_basis};
 ghost use Rattle.cedar_samples.specs.Decisions.{AreDecided};
@@ -17,9 +18,9 @@ struct Decisions<'a> {
     refused: Vec<SliceReport<'a>>,
 }
 
-/// Admits the policies without findings, and refuses the others. Each admitted policy gives a boolean, or fails only for a
-/// missing entity, an overflow or an extension function; and it gives the same result over each part of the entities that has
-/// the slice of two steps.
+/// Admits the policies without findings, and refuses the others. Each admitted policy gives a
+/// boolean, or fails only for a missing entity, an overflow or an extension function; and its
+/// result does not change over a part of the entities that has the slice of two steps.
 fn decide<'a, C: ArgumentCheck>(
     alloc: Global,
     validator: &Validator<'_, C>,

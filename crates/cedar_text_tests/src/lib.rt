@@ -1,5 +1,5 @@
-//! Which trees, data and findings texts have, or which faults and where. The tests stand apart, because a crate with tests is
-//! proved twice.
+//! Trees, data and findings that texts have, or the faults and their places. The tests stand apart,
+//! because a crate with tests is proved twice.
 #![tactic(auto)]
 
 #[cfg(test)]

@@ -1,11 +1,11 @@
-// Answers of calls in Cedar's own protocol, where nothing is found.
+// Answers of calls in Cedar's own protocol, without findings.
 use cedar_calls::conditions::conditions_call;
 use cedar_calls::data::check_data_call;
 use cedar_calls::validation::validate_call;
 use std::process::Abort;
 use std::test::Fail;
 
-/// What a call has before its policies.
+/// The text of a call before its policies.
 const SCHEMA: &str = "{\"schema\":\"entity U; action v appliesTo { principal: U, resource: U };\",";
 
 #[test]

@@ -1,5 +1,5 @@
-//! Which verdicts texts of policies and data have, and which answers calls. The tests stand apart from those of texts, which need
-//! not wait for verdicts to be proved.
+//! Verdicts on texts of policies and data, and answers of calls. The tests stand apart from those
+//! of texts, which need not wait for verdicts to be proved.
 #![tactic(auto)]
 
 #[cfg(test)]

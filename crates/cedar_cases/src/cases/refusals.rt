@@ -27,11 +27,12 @@ const HEAD: usize = 2;
 pub enum Notation {
     /// In Cedar's own syntax.
     Cedar,
-    /// One by one.
+    /// Declarations, one by one.
     AsGiven,
 }
 
-/// The notation of the declarations in each case, if the cases of a file of this text bring their own.
+/// The notation of the declarations in each case, if the cases of a file of this text bring their
+/// own.
 pub fn notation_of(text: &str) -> Option<Notation> {
     match text.lines().next() {
         Some(FIRST) => Some(Notation::Cedar),
@@ -40,7 +41,8 @@ pub fn notation_of(text: &str) -> Option<Notation> {
     }
 }
 
-/// The fault of the second line of such a file: it stands at the first name, because the line must have just these two.
+/// The fault of the second line of such a file: it stands at the first name, because the line must
+/// have just these two.
 pub fn fault_of_columns(text: &str) -> Option<FileFault> {
     if text.lines().nth(1) == Some(COLUMNS) {
         None
@@ -91,7 +93,8 @@ fn run_line<W: Write>(
     agrees(name, number, "refusal", wanted, got.as_str(), out)
 }
 
-/// The declarations of a line and the wanted refusal; or the byte at which a field is missing or one too many begins.
+/// The declarations of a line and the wanted refusal; or the byte at which a field is missing or
+/// one too many begins.
 fn fields_of(line: &str) -> Result<(&str, &str), (usize, Fault)> {
     let Some((declarations, wanted)) = line.split_once('\t') else {
         return Err((
@@ -111,7 +114,8 @@ fn fields_of(line: &str) -> Result<(&str, &str), (usize, Fault)> {
     }
 }
 
-/// The name of the refusal of these declarations, or `ok`; or the byte at which they cannot be read.
+/// The name of the refusal of these declarations, or `ok`; or the byte at which they cannot be
+/// read.
 fn refusal_of(
     alloc: Global,
     declarations: &str,

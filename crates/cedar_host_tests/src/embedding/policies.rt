@@ -23,13 +23,14 @@ pub const FROM_RANGE: &str =
 pub const FROM_NOWHERE: &str =
     "permit(principal, action, resource) when { principal.address.isInRange(ip(\"\")) };";
 
-/// A policy with an undeclared type `Ghost`. Typing does not look at that part for sharing, and for viewing it finds only that
-/// the part is False.
+/// A policy with an undeclared type `Ghost`. Typing does not look at that part for sharing, and for
+/// viewing it finds only that the part is False.
 pub const HAUNTED: &str =
     "permit(principal, action, resource) when { action == Action::\"share\" || \
      ((Ghost::\"casper\" < 1) && false) };";
 
-/// A policy that reads the contact of a user or of a document. In Strict these two types do not agree.
+/// A policy that reads the contact of a user or of a document. In Strict these two types do not
+/// agree.
 pub const OF_EITHER: &str = "permit(principal, action, resource) when { \
      (if principal has vip then principal else resource).contact == principal };";
 
@@ -86,8 +87,8 @@ pub fn misspelt(alloc: Global) -> Result<Template, AllocError> {
     permit_when(alloc, MISSPELT, test)
 }
 
-/// `action == Action::"share" || ((Ghost::"casper" < 1) && false)`, where the type of `casper` is
-/// at its place
+/// `action == Action::"share" || ((Ghost::"casper" < 1) && false)`, with the type of `casper` at
+/// its place
 pub fn haunted(alloc: Global) -> Result<Template, AllocError> {
     let right = Expr::and(alloc, below_one(alloc)?, Expr::val(Literal::from(false)))?;
     permit_when(alloc, HAUNTED, Expr::or(alloc, is_sharing(alloc)?, right)?)
@@ -113,8 +114,8 @@ fn below_one(alloc: Global) -> Result<Expr, AllocError> {
     Expr::less(alloc, Expr::val(Literal::from(casper)), one)
 }
 
-/// `(if principal has vip then principal else resource).contact == principal`, where the `if` is at
-/// its place
+/// `(if principal has vip then principal else resource).contact == principal`, with the `if` at its
+/// place
 pub fn of_either(alloc: Global) -> Result<Template, AllocError> {
     let place = place_in(
         OF_EITHER,
@@ -132,20 +133,21 @@ fn user_or_document(alloc: Global) -> Result<Expr, AllocError> {
     Expr::ite(alloc, is_marked, user, document)
 }
 
-/// `resource.contact == principal`, where the access is at its place
+/// `resource.contact == principal`, with the access at its place
 pub fn by_its_contact(alloc: Global) -> Result<Template, AllocError> {
     let place = place_in(BY_ITS_CONTACT, "resource.contact");
     by_contact(alloc, BY_ITS_CONTACT, Expr::var(Var::Resource), place)
 }
 
-/// `resource.contact.contact == principal`, where the second access is at its place
+/// `resource.contact.contact == principal`, with the second access at its place
 pub fn by_their_contact(alloc: Global) -> Result<Template, AllocError> {
     let user = Expr::get_attr(alloc, Expr::var(Var::Resource), "contact")?;
     let place = place_in(BY_THEIR_CONTACT, "resource.contact.contact");
     by_contact(alloc, BY_THEIR_CONTACT, user, place)
 }
 
-/// The policy of this text, in which the contact of `owner` is the principal; the access to it is at this place.
+/// The policy of this text, in which the contact of `owner` is the principal; the access to it is
+/// at this place.
 fn by_contact(
     alloc: Global,
     text: &str,
@@ -194,7 +196,7 @@ pub fn from_range(alloc: Global) -> Result<Template, AllocError> {
     )
 }
 
-/// `principal.address.isInRange(ip(""))`, where the call of `ip` is at its place
+/// `principal.address.isInRange(ip(""))`, with the call of `ip` at its place
 pub fn from_nowhere(alloc: Global) -> Result<Template, AllocError> {
     let place = place_in(FROM_NOWHERE, "ip(\"\")");
     let range = ip(alloc, "")?.with_maybe_source_loc(place);

@@ -51,8 +51,8 @@ impl Answer {
 
 /// The parts of a text, sorted by bytes, with `between` from one to the next.
 pub fn in_order(alloc: Global, text: &str, between: &str) -> Result<String, AllocError> {
-    // one by one, because `collect` ignores memory that is refused for a hint of the number of
-    // parts
+    // the parts are pushed one by one, because `collect` ignores memory that is refused for a hint
+    // of their number
     let mut parts = Vec::new(alloc);
     for part in text.split(between) {
         parts.push(part)?;

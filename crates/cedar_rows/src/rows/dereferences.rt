@@ -136,7 +136,7 @@ for policy `policy0`, this policy requires level 1, which exceeds the maximum al
 errors=0 warnings=0
 "#;
 
-/// An impossible policy may need a level, because it is evaluated all the same.
+/// An impossible policy may need a level, because it is evaluated like any other.
 pub const IMPOSSIBLE: &str = r#"
 ? S1 Strict level 0: principal.bool && false
 errors=1 warnings=1
@@ -192,8 +192,8 @@ errors=1 warnings=0
 for policy `policy0`, entity literals cannot be dereferenced at any level
 "#;
 
-/// The least level that is enough for the policies of other rows. It is 0 for a policy that fails, and for one without an
-/// environment.
+/// The least level that is enough for the policies of other rows. It is 0 for a policy that fails,
+/// and for one without an environment.
 pub const REQUIRED_LEVELS: &str = r#"
 ? S1 Strict required level: {foo: principal}.foo is User
 0
@@ -215,7 +215,8 @@ none
 1
 "#;
 
-/// Conditionals that a test decides hold one branch twice. Each is walked once, because a walk over both would not end.
+/// Conditionals that a test decides hold one branch twice. Each is walked once, because a walk over
+/// both would not end.
 pub const SHARED_BRANCHES: &str = r#"
 ? S1 Strict level 0: ACCESS_UNDER_64
 errors=1 warnings=0

@@ -1,7 +1,7 @@
 // The rows that are built, by their names.
 use crate::rows::{NamedRow, Nested, Steps, conditions, dereferences, policies};
 
-/// `true` under so many negations that it stands at the limit of depth, and beyond it.
+/// `true` under negations, at the limit of depth and beyond it.
 const NEGATIONS: [Nested; 3] = [
     Nested {
         word: "TRUE_UNDER_398",
@@ -23,7 +23,7 @@ const NEGATIONS: [Nested; 3] = [
     },
 ];
 
-/// A chain of so many attributes, with its root and without.
+/// A chain of attributes, with its root and without.
 const USERS: [Nested; 2] = [
     Nested {
         word: "USER_AND_10000",
@@ -39,8 +39,8 @@ const USERS: [Nested; 2] = [
     },
 ];
 
-/// An access under so many conditionals. Parentheses would make the same tree, but reading them is
-/// too deep.
+/// An access under conditionals. Parentheses would make the same tree, but reading them is too
+/// deep.
 const CONDITIONALS: [Nested; 1] = [Nested {
     word: "ACCESS_UNDER_64",
     around: ["if true then ", " else false"],

@@ -1,6 +1,6 @@
 // The rows on policies in their environments, on names and scopes, and on tables, as texts.
 
-/// A type that is not declared has a place that is never evaluated. It is found all the same.
+/// A type that is not declared, at a place that is never evaluated. Validation finds it there too.
 pub const UNKNOWN_TYPE: &str = r#"
 ? S1 Strict policy: (Unk::"a" < 1) && false
 true errors=0 warnings=1
@@ -46,7 +46,8 @@ Fail errors=0
 false errors=0 warnings=0
 "#;
 
-/// A function that returns any entity, and a slot that is bound to an entity of a type that is not declared.
+/// A function that returns any entity, and a slot that is bound to an entity of a type that is not
+/// declared.
 pub const UNKNOWN_TYPE_IN_SLOT: &str = r#"
 ? S4 table: f() -> entity
 BadReturnType

@@ -23,7 +23,7 @@ pub struct Steps<'a>(pub &'a str, pub &'a [Nested]);
 #[derive(Clone, Copy)]
 pub struct Nested {
     pub word: &'static str,
-    /// The texts before the inner text and behind it, each repeated so many times.
+    /// The texts before the inner text and behind it, each repeated `count` times.
     pub around: [&'static str; 2],
     pub times: usize,
     pub inner: &'static str,

@@ -8,7 +8,7 @@ use cedar_types::base::ValidationMode;
 use std::alloc::{AllocError, Global};
 use std::test::Fail;
 
-/// Command lines, and what they ask for or what is wrong with them.
+/// Command lines, each with its reading or its fault.
 const LINES: [(&str, &str); 60] = [
     (
         "--schema s p --schema=t q",

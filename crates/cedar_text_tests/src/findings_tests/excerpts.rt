@@ -66,8 +66,8 @@ fn the_number_of_a_line(rt: HostRuntime) -> Result<(), Fail> {
     Ok(())
 }
 
-/// Wide texts by their pieces, places in them, and what is shown below the number: at most 200 characters before a place, in it
-/// and behind it.
+/// Wide texts by their pieces, places in them, and the text shown behind the number: at most 200
+/// characters before a place, in it and behind it.
 const WIDE: [(&[(&str, usize)], Loc, &[(&str, usize)]); 3] = [
     (
         &[("a", 150), ("b", 100)],

@@ -71,7 +71,8 @@ fn faults(rt: HostRuntime) -> Result<(), Fail> {
     Ok(())
 }
 
-/// Lines are painted on a terminal alone, and not where the environment has a `NO_COLOR` that says something.
+/// Lines are painted on a terminal alone, and not if the environment has a `NO_COLOR` that is not
+/// empty.
 #[test]
 fn colours(rt: HostRuntime) -> Result<(), Fail> {
     let alloc = rt.alloc();
@@ -93,7 +94,7 @@ fn colours(rt: HostRuntime) -> Result<(), Fail> {
     Ok(())
 }
 
-/// What was written is not shown again.
+/// Cleared output is not shown again.
 #[test]
 fn parts(rt: HostRuntime) -> Result<(), Fail> {
     let alloc = rt.alloc();
@@ -107,8 +108,8 @@ fn parts(rt: HostRuntime) -> Result<(), Fail> {
     Ok(())
 }
 
-/// Quiet output in lines or objects has no end, neither of verdicts nor of a comparison. SARIF always ends, because it is one
-/// object.
+/// Quiet output in lines or objects has no end, neither of verdicts nor of a comparison. SARIF
+/// always ends, because it is one object.
 #[test]
 fn quiet_ends(rt: HostRuntime) -> Result<(), Fail> {
     let alloc = rt.alloc();

@@ -4,7 +4,7 @@ use cedar_reading::Position;
 use std::alloc::{AllocError, Global};
 use std::test::Fail;
 
-/// Bytes, and their text or the place where they are none.
+/// Bytes, and their text or the place at which they are none.
 const FILES: [(&[u8], &str); 8] = [
     (b"a\nb", "text a\nb"),
     (b"", "text "),

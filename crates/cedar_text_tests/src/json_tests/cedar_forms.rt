@@ -1,4 +1,5 @@
-// Forms in which Cedar itself writes or reads JSON: `null` for an option, and other words for one meaning.
+// Forms in which Cedar itself writes or reads JSON: `null` for an option, and other words for one
+// meaning.
 use crate::frames::Frame;
 use crate::json_tests::cases::{check, check_faults};
 use crate::json_tests::policies::CONDITION;
@@ -21,7 +22,8 @@ const TAGS: Frame<'static> = (
 /// The text before and behind an action `a`.
 const ACTION: Frame<'static> = (r#"{"": {"entityTypes": {}, "actions": {"a": "#, "}}}");
 
-/// An annotation without a value is as `@doc` in Cedar's own syntax, and its value is the empty text.
+/// An annotation without a value is as `@doc` in Cedar's own syntax, and its value is the empty
+/// text.
 #[test]
 fn annotations_without_values(rt: HostRuntime) -> Result<(), Fail> {
     let (before, behind) = ANNOTATIONS;
@@ -123,8 +125,8 @@ fn a_null_of_one_policy(rt: HostRuntime) -> Result<(), Fail> {
     let (before, behind) = ANNOTATIONS;
     let good = format!(in rt.alloc(); "{before}{{}}{behind}")?;
     let json = format!(in rt.alloc(); "[{good}, {{\"effect\": null}}, {good}, null]")?;
-    // `null` stands behind the bracket, the first policy, `, ` and `{"effect": `; the last one stands before the closing
-    // bracket.
+    // `null` stands behind the bracket, the first policy, `, ` and `{"effect": `; the last one
+    // stands before the closing bracket.
     let first = good.len().saturating_add(14);
     let last = json.len().saturating_sub(5);
     let wanted = format!(in rt.alloc();
@@ -169,7 +171,8 @@ fn extension_types_by_name(rt: HostRuntime) -> Result<(), Fail> {
     check(&rt, rt.alloc(), show_schema, &[(declared, wanted)])
 }
 
-/// Tags with a fault at the mark, and the fault: no primitive type is an extension type, and an entity has values only.
+/// Tags with a fault at the mark, and the fault: no primitive type is an extension type, and an
+/// entity has values only.
 const FAULTS_OF_TAGS: [(&str, &str); 5] = [
     (r#"{"type": "Extension", "name": §"Long"}"#, "Undeclared"),
     (r#"{"type": "Extension", "name": §"String"}"#, "Undeclared"),
@@ -183,7 +186,8 @@ fn faults_of_tags(rt: HostRuntime) -> Result<(), Fail> {
     check_faults(&rt, rt.alloc(), show_schema, TAGS, &FAULTS_OF_TAGS)
 }
 
-/// Schemas with a name, at the mark, that nothing declares although it has a meaning in Cedar's own syntax.
+/// Schemas with a name, at the mark, that nothing declares although it has a meaning in Cedar's own
+/// syntax.
 const NAMES_OF_OTHERS: [(&str, &str); 4] = [
     (
         r#"{"": {"commonTypes": {"C": {"type": "Long"}}, "entityTypes": {"A": {"tags": {"type": "Entity", "name": §"C"}}}, "actions": {}}}"#,
@@ -219,7 +223,7 @@ fn an_extension_type_as_a_shape(rt: HostRuntime) -> Result<(), Fail> {
     check_faults(&rt, rt.alloc(), show_schema, frame, &cases)
 }
 
-/// Declarations with `null` where Cedar has an option.
+/// Declarations with `null` in place of an option of Cedar.
 const DECLARATIONS: [(&str, &str); 3] = [
     (
         r#"{"": {"annotations": {"doc": null}, "entityTypes": {"A": {"tags": null, "annotations": {"doc": null}}}, "actions": {}}}"#,
@@ -240,7 +244,7 @@ fn declarations(rt: HostRuntime) -> Result<(), Fail> {
     check(&rt, rt.alloc(), show_schema, &DECLARATIONS)
 }
 
-/// Actions with `null` where Cedar has a value, at the mark.
+/// Actions with `null` in place of a value of Cedar, at the mark.
 const FAULTS_OF_ACTIONS: [(&str, &str); 3] = [
     (r#"{"memberOf": [§null]}"#, "Null"),
     (r#"{"memberOf": [{"id": §null}]}"#, "Null"),

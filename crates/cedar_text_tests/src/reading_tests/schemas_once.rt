@@ -1,11 +1,13 @@
-// Schemas that are read once: aliases that stand for others again and again, and names that hide others.
+// Schemas that are read once: aliases that stand for others again and again, and names that hide
+// others.
 use cedar_reading::{
     Position, ReadError, SchemaReadError, schema, schema_faults, schema_with_hiding, token_text,
 };
 use std::alloc::{AllocError, Global};
 use std::test::Fail;
 
-/// A chain of `count` aliases, a line for each, where each stands for the one before twice; and an attribute of the last.
+/// A chain of `count` aliases, a line for each, of which each stands for the one before twice; and
+/// an attribute of the last.
 fn doubled(alloc: Global, count: usize) -> Result<String, AllocError> {
     let mut text = String::from_str(alloc, "type A0 = Long;\n")?;
     for before in 0..count {
@@ -30,9 +32,10 @@ fn answer(alloc: Global, text: &str) -> Result<String, AllocError> {
     }
 }
 
-/// A text may have as many tokens as bytes and 2^20 more. The tokens of an alias count wherever its name stands, and an alias
-/// is refused behind the name that makes them too many. The alias of number n has 10 * 2^n - 9 tokens, so the first 15 lines of
-/// aliases have 655,000, and the next has 655,000 too. The places were found by counting tokens one by one.
+/// A text may have as many tokens as bytes and 2^20 more. The tokens of an alias count wherever its
+/// name stands, and an alias is refused behind the name that makes them too many. The alias of
+/// number n has 10 * 2^n - 9 tokens, so the first 15 lines of aliases have 655,000, and the next
+/// has 655,000 too. The places were found by counting tokens one by one.
 const DOUBLED: [(usize, &str); 6] = [
     (0, "read"),
     (14, "read"),
@@ -53,8 +56,9 @@ fn aliases_that_double(rt: HostRuntime) -> Result<(), Fail> {
     Ok(())
 }
 
-/// A type may be at most 800 steps deep: one for each type, one more for a name and one for the alias behind it, two more for a
-/// record. An alias that was expanded with more steps left is refused at a place where it does not fit.
+/// A type may be at most 800 steps deep: one for each type, one more for a name and one for the
+/// alias behind it, two more for a record. An alias that was expanded with more steps left is
+/// refused at a place at which it does not fit.
 fn nested(alloc: Global, sets: usize) -> Result<String, AllocError> {
     let mut text = String::from_str(
         alloc,
@@ -74,7 +78,8 @@ fn nested(alloc: Global, sets: usize) -> Result<String, AllocError> {
 #[test]
 fn aliases_that_are_too_deep(rt: HostRuntime) -> Result<(), Fail> {
     let alloc = rt.alloc();
-    // steps besides the sets: 1 for the attributes of X; A and R take 3 each, the record 3, and its attribute 2
+    // steps besides the sets: 1 for the attributes of X; A and R take 3 each, the record 3, and its
+    // attribute 2
     for (sets, want) in [(788, "read"), (789, "1:14 `Long`: nested too deep")] {
         let text = nested(alloc, sets)?;
         let got = answer(alloc, text.as_str())?;
@@ -83,7 +88,8 @@ fn aliases_that_are_too_deep(rt: HostRuntime) -> Result<(), Fail> {
     Ok(())
 }
 
-/// The number of entity types in the schema of a text, the first name that hides another, and its byte.
+/// The number of entity types in the schema of a text, the first name that hides another, and its
+/// byte.
 fn hiding(alloc: Global, text: &str) -> Result<String, AllocError> {
     let read = match schema_with_hiding(alloc, text) {
         Ok(read) => read,
@@ -96,7 +102,8 @@ fn hiding(alloc: Global, text: &str) -> Result<String, AllocError> {
     }
 }
 
-/// A name of a namespace hides an equal name outside: an entity type or an alias, or an action with its id.
+/// A name of a namespace hides an equal name outside: an entity type or an alias, or an action with
+/// its id.
 const HIDING: [(&str, &str); 7] = [
     ("entity A;", "1 types"),
     ("entity A; namespace N { entity A; }", "2 types, N::A at 31"),
@@ -138,8 +145,8 @@ fn faults(alloc: Global, text: &str) -> Result<String, AllocError> {
     Ok(places)
 }
 
-/// An undeclared type and a context that is no record are told beside the fault behind them in one declaration, and beside one
-/// in the type of an alias.
+/// An undeclared type and a context that is no record are told beside the fault behind them in one
+/// declaration, and beside one in the type of an alias.
 const BEFORE_A_FAULT: [(&str, &str); 3] = [
     ("entity A { a: Gone, b Long };", "14 22 "),
     (
@@ -158,8 +165,8 @@ fn names_before_a_fault(rt: HostRuntime) -> Result<(), Fail> {
     Ok(())
 }
 
-/// Texts, and their first token: a word, a number, a text in quotes, or the longest mark that fits; behind blanks and comments.
-/// Letters and blanks may be any of Unicode.
+/// Texts, and their first token: a word, a number, a text in quotes, or the longest mark that fits;
+/// behind blanks and comments. Letters and blanks may be any of Unicode.
 const TOKENS: [(&str, &str); 24] = [
     ("", ""),
     ("entity", "entity"),

@@ -1,4 +1,4 @@
-// The same findings in each format.
+// Findings in each format: lines, JSON and SARIF.
 use crate::verdicts_tests::shown::whole::{Texts, output_in};
 use crate::verdicts_tests::tables::formats::{
     COMMANDS, DATA_OBJECTS, DATA_RESULT, FAULTY_SCHEMA, POLICY_RESULTS, SCHEMA_FAULTS,
@@ -78,7 +78,8 @@ fn no_commands(rt: HostRuntime) -> Result<(), Fail> {
     Ok(())
 }
 
-/// A policy with an error, one without, and one that cannot be read, in a file whose name is no reference.
+/// A policy with an error, one without, and one that cannot be read, in a file whose name is no
+/// reference.
 #[test]
 fn results_of_policies(rt: HostRuntime) -> Result<(), Fail> {
     let alloc = rt.alloc();

@@ -9,7 +9,8 @@ use std::test::Fail;
 
 const JSON: &str = r#"{"": {"entityTypes": {"A": {}}, "actions": {}}}"#;
 
-/// The shown faults of a schema in files `f0`, `f1` and so on of these texts, and whether there is a schema.
+/// The shown faults of a schema in files `f0`, `f1` and so on of these texts, and whether there is
+/// a schema.
 fn shown_of(
     alloc: Global,
     syntax: Option<Syntax>,
@@ -44,8 +45,8 @@ fn has_schema(
     Ok(files.schema(alloc, output)?.is_some())
 }
 
-/// The texts of files, whether there is a schema, and what is shown. Each file may name the declarations of the others, and a fault
-/// stands in its own file. A schema in JSON stands alone.
+/// The texts of files, whether there is a schema, and the text shown. Each file may name the
+/// declarations of the others, and a fault stands in its own file. A schema in JSON stands alone.
 const FILES: [(&[&str], bool, &str); 7] = [
     (&["entity A { b: B };", "entity B;"], true, ""),
     (

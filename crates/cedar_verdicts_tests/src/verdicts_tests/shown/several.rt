@@ -39,7 +39,8 @@ fn one_mistake_of_many_types(rt: HostRuntime) -> Result<(), Fail> {
     Ok(())
 }
 
-/// A policy that one part makes impossible for files, and another for pages: each part has the environments in which it is false.
+/// A policy that one part makes impossible for files, and another for pages: each part has the
+/// environments in which it is false.
 #[test]
 fn false_parts_of_several_environments(rt: HostRuntime) -> Result<(), Fail> {
     let alloc = rt.alloc();
@@ -68,7 +69,8 @@ fn false_parts_of_several_environments(rt: HostRuntime) -> Result<(), Fail> {
     Ok(())
 }
 
-/// A schema in JSON, and policies in JSON, in Cedar's own syntax and in a list. Each file has its own numbers.
+/// A schema in JSON, and policies in JSON, in Cedar's own syntax and in a list. Each file has its
+/// own numbers.
 #[test]
 fn files_in_both_syntaxes(rt: HostRuntime) -> Result<(), Fail> {
     let alloc = rt.alloc();
@@ -97,7 +99,7 @@ fn files_in_both_syntaxes(rt: HostRuntime) -> Result<(), Fail> {
     Ok(())
 }
 
-/// A warning counts as a refused policy where warnings are denied.
+/// A warning counts as a refused policy if warnings are denied.
 #[test]
 fn a_warning_in_json(rt: HostRuntime) -> Result<(), Fail> {
     let test = r#"{"is": {"left": {"Var": "principal"}, "entity_type": "Team::Doc"}}"#;

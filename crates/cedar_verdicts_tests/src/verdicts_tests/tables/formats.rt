@@ -32,7 +32,8 @@ pub const SCHEMA_FAULTS: [(usize, usize, &str); 10] = [
     (11, 17, "a name that is not declared, where `gone` is read"),
 ];
 
-/// Policies with lines that are commands to a code host, where they stand at the beginning of a line, or anywhere.
+/// Policies with lines that are commands to a code host if they stand at the beginning of a line,
+/// or anywhere.
 pub const COMMANDS: [&str; 3] = [
     "permit(principal, action, resource) when {
 ::error file=app.js,line=1::forged by a policy
