@@ -5,7 +5,9 @@ scripts/measure/benchmark.py [PROGRAM].
 A policy of 40 conditions is checked by a schema in which each action applies to 10 types of principals and 10 of resources,
 so in 100 environments an action. PROGRAM is cedar_cases, by default as it is built without a proof. Instructions are counted by
 valgrind over a few actions: what the reading takes is counted by a policy that names no attribute, and taken away. The level
-pass is what the validation with levels costs beyond the check; above a third of the check the script fails. Memory is
+pass is what the validation with levels costs beyond the check; above a third of the check the script fails. Then conjunctions of
+100 parts are asked in one environment, because there all that a policy costs once weighs most: the required level and the
+validation with levels, as multiples of typechecking the policy, each counted within its call alone. Memory is
 what a run has allocated at a time: the schema is read first, which keeps a list of its environments, and nearly all of the run
 are the checks, so from its middle on nothing may grow. It needs valgrind, and is no part of the gate.
 """
@@ -30,8 +32,22 @@ CONDITIONS = (
     'if principal.ready then resource.open else principal.name == "b"',
     'principal.hasTag("t") && principal.getTag("t") == 1',
 )
+# A schema with one environment.
+ONE_TYPE = """entity P0 in [P0] { vip?: Bool, boss: P0, name: String };
+entity R0 { size: Long };
+action a appliesTo { principal: P0, resource: R0, context: { n: Long } };
+"""
 POLICY = " && ".join(f"({it})" for it in CONDITIONS * 4)
 SMALL, LARGE = 2, 4
+PARTS = 100
+# A part of a conjunction, by its number, and the level that the conjunction requires.
+CONJUNCTIONS = (
+    ('principal.name != "a{}"', 1),
+    ('principal.boss.boss.name != "a{}"', 3),
+    ("(principal has vip && principal.vip)", 1),
+    ('principal in P0::"g{}"', 1),
+    ("resource.size > {} && context.n < resource.size", 1),
+)
 # A column of the case, and what it has to say: that the policy passes, that it has no finding at a level that is enough, and that
 # each environment of the one action is a success.
 CHECK = "strict policy", "true"
@@ -63,6 +79,15 @@ def see_to_successes(bench):
         bench.ran([bench.case(schema(1), [when(condition)], *SUCCESSES)])
 
 
+def beside_typing(bench, part, level):
+    """What the required level and the validation with levels of a conjunction cost, as multiples of typechecking it."""
+    policy = when(" && ".join(part.format(i) for i in range(PARTS)))
+    typing = bench.instructions_within("::typecheck_policy", bench.case(ONE_TYPE, [policy]))
+    required = bench.instructions_within("::required_level", bench.case(ONE_TYPE, [policy], "strict required", str(level)))
+    levels = bench.instructions_within("::validate_policy_with_level", bench.case(ONE_TYPE, [policy], *LEVELS))
+    return required / typing, levels / typing
+
+
 def held(bench, actions):
     """The bytes allocated at a time for the policy: at most, in the middle of the run, and at most after that."""
     seen = Path(bench.room, "massif.out")
@@ -80,6 +105,9 @@ def main(words):
         print(f"{both - check:,.0f} for its level pass, {(both - check) / check:.0%} of the check")
         if 3 * (both - check) > check:
             sys.exit("the level pass costs more than a third of the check")
+        for part, level in CONJUNCTIONS:
+            required, levels = beside_typing(bench, part, level)
+            print(f"{PARTS} times {part}: the required level costs {required:.2f} of typechecking, validation with levels {levels:.2f}")
         for actions in (30, 300):
             most, middle, later = held(bench, actions)
             print(f"{actions * TYPES * TYPES:,} environments: {most:,} bytes at most, {middle:,} in the middle, {later:,} at most after it")
