@@ -285,6 +285,14 @@ def shares():
     yield "no more jobs than processors", proofs.most == 4
     yield "the lowest has all processors", proofs.begun["low"][0] == 4
     yield "the longest chain first", [*proofs.begun][:3] == ["low", "no work", "high"]
+    short = Proofs()
+    short.add("low", [], 10, 4)
+    short.add("alone", [], 1, 4)
+    for name in ("high", "side"):
+        short.add(name, ["low"], 10, 4)
+    lanes.side_by_side(short.tasks, 4, lambda: 20 * GIGABYTE)
+    yield "a short proof takes no processor of the lowest", short.begun["low"][0] == 4 and [*short.begun][0] == "low"
+    yield "equal chains have equal shares", [short.begun[it][0] for it in ("high", "side")] == [2, 2]
     small = Proofs()
     for name in ("one", "two"):
         small.add(name, [], 5, 4)

@@ -4,11 +4,11 @@
 `rt ci` reckons the memory of a proof by lines, for the largest crates more than twice of the memory that they take, so that
 processors idle. With RT_JOBS it makes as many proofs at once as that says, but each by one job, and the lowest crate, for which
 all others wait, then takes twice as long. So the one function by which `rt` chooses is replaced here, if its text is one that
-is known: each proof gets the processors that no other proof waits for, as far as memory allows, unless the machine keeps the
-very proof (by the kit's own store, or by scripts/gate/kept.py if the kit has none). Nothing else that proves or counts is
-touched. A kit in which the function has another text is run with RT_JOBS, and proves the lowest crate before, alone, with
-several jobs. It takes the name of a crate only where CI is not set, because by names it is not the gate; the gate is the call
-behind it.
+is known: each proof gets a share of the idle processors by the length of the chain that waits for it, as far as memory allows,
+unless the machine keeps the very proof (by the kit's own store, or by scripts/gate/kept.py if the kit has none). Nothing else
+that proves or counts is touched. A kit in which the function has another text is run with RT_JOBS, and proves the lowest crate
+before, alone, with several jobs. It takes the name of a crate only where CI is not set, because by names it is not the gate; the
+gate is the call behind it.
 """
 import hashlib
 import os
@@ -73,9 +73,10 @@ def memory_of(part, task):
     return min(reckoned, LEAST + LINE[part] * lines) if part in LINE else reckoned
 
 
-def jobs_of(idle, others, room):
-    """How many jobs a proof gets: its share of the idle processors, as far as the memory beside its own goes."""
-    return max(1, min(MOST, -(-idle // others), 1 + int(room // JOB)))
+def jobs_of(idle, chains, room):
+    """How many jobs the proof with the first of these chains gets: its share of the idle processors, which is as large as its chain
+    is long beside the others, as far as the memory beside its own goes."""
+    return max(1, min(MOST, -(-idle * chains[0] // sum(chains)), 1 + int(room // JOB)))
 
 
 def side_by_side(tasks, processors, memory):
@@ -92,7 +93,7 @@ def side_by_side(tasks, processors, memory):
                 idle = processors - sum(jobs for _, jobs, _ in running.values())
                 room = memory() - sum(taken for _, _, taken in running.values()) - needs
                 if idle > 0 and (room >= 0 or not running):
-                    jobs = jobs_of(idle, len(ready) - at, room)
+                    jobs = jobs_of(idle, [behind[it] for it in ready[at:]], room)
                     left.remove(key)
                     running[pool.submit(tasks[key][3], given, jobs)] = key, jobs, needs + JOB * (jobs - 1)
             for it in wait(running, LOOK, FIRST_COMPLETED).done if running else ():
