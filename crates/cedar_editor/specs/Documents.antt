@@ -1,10 +1,11 @@
 -- Policies of a document, and the verdicts on them.
-use Rattle.std.specs.Prelude.{◌≡◌, ℕ, ◌+◌, ◌-◌, min, List, All, true, false}
+use Rattle.std.specs.Prelude.{◌≡◌, ℕ, ◌+◌, ◌<◌, ◌≤◌, List, All, true, false, length, slice_range, string_bytes}
 use Rattle.cedar_types.specs.Extensions.Functions.{Refusals}
 use Rattle.cedar_types.specs.Templates.{template_of}
 use Rattle.cedar_verdicts.specs.Verdicts.{basis_of, IsPromised}
 use Rattle.cedar_verdicts.specs.declared.settings.Settings.{Settings}
 use Rattle.cedar_editor.specs.Checks.{has_shown_error, IsRightlySaid}
+use Rattle.cedar_editor.specs.Lines.{moved_byte}
 use Rattle.cedar_editor.specs.declared.checks.CheckedPolicy.{CheckedPolicy}
 use Rattle.cedar_editor.specs.declared.documents.Judge.{Judge}
 use Rattle.cedar_editor.specs.declared.documents.Judge.TheVariants as Judge
@@ -28,14 +29,29 @@ AreRightlySaidBy meaning judge ps = All (IsSaidBy meaning judge) ps
 abbrev pub placed_policy : PlacedPolicy → ℕ × CheckedPolicy
 placed_policy p = (p.start, p.policy.value)
 
--- the byte behind a change, once the change is made: the changed part ended at `old`, and ends at `new` now; no place lies
--- beyond 64 bits
-abbrev pub moved_byte : ℕ → ℕ → ℕ → ℕ
-moved_byte old new b = min ((b - old) + new) 18446744073709551615
-
 -- the byte at which a policy behind a change begins once the change is made, and the policy
 abbrev pub moved_policy : ℕ → ℕ → PlacedPolicy → ℕ × CheckedPolicy
 moved_policy old new p = (moved_byte old new p.start, p.policy.value)
+
+-- the text of a policy stands in a text at a byte
+abbrev pub stands_at : List ℕ → ℕ → CheckedPolicy → Type 0
+stands_at text start p = slice_range text start (start + length (string_bytes p.text)) ≡ string_bytes p.text
+
+-- the text of a policy stands in a text where the policy begins
+abbrev pub StandsIn : List ℕ → PlacedPolicy → Type 0
+StandsIn text p = stands_at text p.start p.policy.value
+
+-- the texts of all of these policies stand in a text, each where its policy begins
+abbrev pub AllStandIn : List ℕ → List PlacedPolicy → Type 0
+AllStandIn text ps = All (StandsIn text) ps
+
+-- a policy ends at a byte or before it
+abbrev pub EndsBy : ℕ → PlacedPolicy → Type 0
+EndsBy byte p = p.start + length (string_bytes p.policy.value.text) ≤ byte
+
+-- a policy begins behind a byte
+abbrev pub BeginsBehind : ℕ → PlacedPolicy → Type 0
+BeginsBehind byte p = byte < p.start
 
 -- no error of a policy is shown
 abbrev pub ShowsNoError : PlacedPolicy → Type 0

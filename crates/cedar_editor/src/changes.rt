@@ -1,9 +1,10 @@
 // Changes of a text of policies: the policies that stay, and those that are read again.
-ghost use Rattle.std.specs.Prelude.{◌≡◌, ◌++◌, drop, map, take, IfOk, IfSome, OnOk};
-ghost use Rattle.cedar_editor.specs.Documents.{is_said_by, moved_byte, moved_policy, placed_policy, AreRightlySaidBy};
+ghost use Rattle.std.specs.Prelude.{◌≡◌, ◌+◌, ◌≤◌, ◌++◌, drop, length, map, slice_range, take, string_bytes, All, IfOk, IfSome, OnOk};
+ghost use Rattle.cedar_editor.specs.Documents.{is_said_by, moved_policy, placed_policy, AllStandIn, AreRightlySaidBy, BeginsBehind, EndsBy};
 
 use crate::checks::{CheckedPolicy, check_policy, read_alone};
 use crate::documents::{Judge, PlacedPolicy};
+use crate::lines::moved;
 use crate::windows::{Window, window_of};
 use cedar_types::base::{ArgumentCheck, Loc};
 use std::alloc::{AllocError, Global};
@@ -20,7 +21,8 @@ pub struct Touched {
 
 /// The policies of a text that a change touches, and the places of those that stand there now. A policy with a fault right
 /// before the change is read again too, because it ends at the byte at which the next one seems to begin. Reading goes on until
-/// a policy ends at a byte at which an old one ended.
+/// a policy ends at a byte at which an old one ended. The policies before them end before the change (clause `before`), and
+/// those behind them begin behind it (clause `behind`).
 pub fn read_touched(
     alloc: Global,
     old: &[PlacedPolicy],
@@ -28,9 +30,15 @@ pub fn read_touched(
     text: &str,
     place: Loc,
     inserted: usize,
-) -> Result<Touched, AllocError> {
+) -> Result<Touched, AllocError>
+    ensures before { IfOk result (λ touched.
+        All (EndsBy place.start) (take touched.first old.now)) }
+    ensures behind { IfOk result (λ touched.
+        All (BeginsBehind place.end) (drop touched.last old.now)) }
+{
     let first = first_touched(old, place.start);
-    let mut last = last_touched(old, place.end).max(first.saturating_add(1));
+    let least = last_touched(old, place.end).max(first.saturating_add(1));
+    let mut last = behind_fault(old, least);
     let start = end_before(old, first);
     let mut step = 1usize;
     for _ in 0..old.len().saturating_add(1) {
@@ -42,7 +50,6 @@ pub fn read_touched(
         let end = moved(old_end, place.end, place.start.saturating_add(inserted));
         let Window { places, is_settled } = window_of(alloc, text, Loc { start, end })?;
         if is_settled {
-            let last = last.min(old.len());
             return Ok(Touched {
                 first,
                 last,
@@ -65,20 +72,39 @@ pub fn read_touched(
 }
 
 /// The number of the first policy that ends behind a byte, or of the first one with a fault right before it.
-fn first_touched(old: &[PlacedPolicy], byte: usize) -> usize {
-    let mut first = old.iter().take_while(|placed| placed.end() <= byte).count();
-    for placed in old.iter().take(first).rev() {
-        if placed.policy.fault.is_none() {
-            break;
-        }
-        first = first.saturating_sub(1);
+fn first_touched(old: &[PlacedPolicy], byte: usize) -> usize
+    ensures { All (EndsBy byte) (take result old.now) }
+{
+    let mut first = 0;
+    while first < old.len() && old[first].ends_by(byte) {
+        first += 1;
+    }
+    while first > 0 && old[first - 1].policy.fault.is_some() {
+        first -= 1;
     }
     first
 }
 
-/// The number of policies that begin at a byte or before it.
-fn last_touched(old: &[PlacedPolicy], byte: usize) -> usize {
-    old.iter().take_while(|placed| placed.start <= byte).count()
+/// The number of the first of the last policies that begin behind a byte.
+fn last_touched(old: &[PlacedPolicy], byte: usize) -> usize
+    ensures { All (BeginsBehind byte) (drop result old.now) }
+{
+    let mut last = old.len();
+    while last > 0 && byte < old[last - 1].start {
+        last -= 1;
+    }
+    last
+}
+
+/// The number of the first policy that is not read again: this one, or the next one if the policy before it has a fault, because
+/// the fault most often outlasts the change, and the policy behind a fault is then read too.
+fn behind_fault(old: &[PlacedPolicy], last: usize) -> usize
+    ensures { last ≤ result }
+{
+    match last.checked_sub(1).and_then(|before| old.get(before)) {
+        Some(placed) if placed.policy.fault.is_some() => last.saturating_add(1),
+        _ => last,
+    }
 }
 
 /// The byte at which the policy before this number ends; the beginning of the text if there is none.
@@ -87,13 +113,6 @@ fn end_before(old: &[PlacedPolicy], number: usize) -> usize {
         Some(placed) => placed.end(),
         None => 0,
     }
-}
-
-/// The place of a byte behind a change, once the change is made.
-fn moved(byte: usize, old_end: usize, new_end: usize) -> usize
-    ensures { result ≡ moved_byte old_end new_end byte }
-{
-    byte.saturating_sub(old_end).saturating_add(new_end)
 }
 
 /// Adds the policies before this number.
@@ -137,7 +156,8 @@ pub fn keep_after(
     Ok(())
 }
 
-/// Adds the policies at these places of a text. A policy that has the text of a known one is not read or judged again.
+/// Adds the policies at these places of a text, each where it stands (clause `placed`). A policy that has the text of a known
+/// one is not read or judged again.
 pub fn add_policies<C: ArgumentCheck>(
     alloc: Global,
     judge: &Judge<'_, C>,
@@ -146,12 +166,14 @@ pub fn add_policies<C: ArgumentCheck>(
     known: &[PlacedPolicy],
     policies: &mut Vec<PlacedPolicy>,
 ) -> Result<(), AllocError>
-    ensures { OnOk result (AreRightlySaidBy C.refusal judge.now known.now
+    ensures right { OnOk result (AreRightlySaidBy C.refusal judge.now known.now
         → AreRightlySaidBy C.refusal judge.now policies.old.items
         → AreRightlySaidBy C.refusal judge.now policies.new.items) }
+    ensures placed { OnOk result (AllStandIn text.now policies.old.items
+        → AllStandIn text.now policies.new.items) }
 {
     for place in places {
-        let own = text.get(place.start..place.end).unwrap_or("");
+        let own = part_at(text, *place);
         let Some(policy) = policy_of(alloc, judge, own, known)? else {
             continue;
         };
@@ -163,6 +185,13 @@ pub fn add_policies<C: ArgumentCheck>(
     Ok(())
 }
 
+/// The part of a text at a place; empty if the place is no part of it.
+fn part_at(text: &str, place: Loc) -> &str
+    ensures { slice_range text.now place.start (place.start + length result.now) ≡ result.now }
+{
+    text.get(place.start..place.end).unwrap_or("")
+}
+
 /// The policy of this text: a known policy with this text if there is one, else one that is read and judged.
 fn policy_of<C: ArgumentCheck>(
     alloc: Global,
@@ -170,8 +199,10 @@ fn policy_of<C: ArgumentCheck>(
     own: &str,
     known: &[PlacedPolicy],
 ) -> Result<Option<Rc<CheckedPolicy>>, AllocError>
-    ensures { IfOk result (λ found. AreRightlySaidBy C.refusal judge.now known.now
+    ensures right { IfOk result (λ found. AreRightlySaidBy C.refusal judge.now known.now
         → IfSome found (λ policy. is_said_by C.refusal judge.now policy.value)) }
+    ensures text { IfOk result (λ found. IfSome found (λ policy.
+        string_bytes policy.value.text ≡ own.now)) }
 {
     for placed in known {
         if placed.policy.text.as_str() == own {

@@ -1,5 +1,5 @@
 //! Policies of a text, each with the verdict on it.
-ghost use Rattle.std.specs.Prelude.{◌≡◌, false, IfOk, IfSome};
+ghost use Rattle.std.specs.Prelude.{◌≡◌, false, string_bytes, IfOk, IfSome};
 ghost use Rattle.cedar_verdicts.specs.Verdicts.{basis_of};
 ghost use Rattle.cedar_editor.specs.Checks.{has_shown_error, IsRightlySaid, IsSafeAsShown};
 
@@ -38,12 +38,17 @@ impl CheckedPolicy {
     /// A number that policies with one id share, and most others do not, by the number of policies that come before it. If memory
     /// is refused, the answer is an `AllocError`.
     pub fn id_sum(&self, alloc: Global, number: usize) -> Result<u64, AllocError> {
+        if self.names_itself {
+            return Ok(sum_of(self.template.id.text.as_str()));
+        }
         let id = self.id(alloc, number)?;
         Ok(sum_of(id.as_str()))
     }
 
-    /// The number of findings that are shown of the policy.
-    pub fn finding_count(&self) -> usize {
+    /// The number of findings that are shown of the policy. If it is 0, no error is shown.
+    pub fn finding_count(&self) -> usize
+        ensures { result ≡ 0 → has_shown_error self.now ≡ false }
+    {
         let said = match &self.verdict {
             Some(verdict) => verdict.errors.len().saturating_add(verdict.warnings.len()),
             None => 0,
@@ -65,13 +70,16 @@ impl CheckedPolicy {
     }
 }
 
-/// The first policy of a text, if there is one, read without a schema and so without a verdict.
+/// The first policy of a text, if there is one, read without a schema and so without a verdict. It holds the text (clause
+/// `text`).
 pub fn read_alone<C>(
     alloc: Global,
     functions: &ExtensionSchemas<C>,
     text: &str,
 ) -> Result<Option<CheckedPolicy>, AllocError>
-    ensures { IfOk result (λ read. IfSome read (λ policy. policy.verdict ≡ None)) }
+    ensures verdict { IfOk result (λ read. IfSome read (λ policy. policy.verdict ≡ None)) }
+    ensures text { IfOk result (λ read. IfSome read (λ policy.
+        string_bytes policy.text ≡ text.now)) }
 {
     let Some(reading) = read_policy(alloc, functions, text)? else {
         return Ok(None);
@@ -97,9 +105,9 @@ pub fn read_alone<C>(
     }))
 }
 
-/// The first policy of a text, if there is one, with the verdict on it. A policy without a fault has the verdict of `judge`
-/// (clause `right`), so a policy that is shown without an error keeps the promise of validation (clause `safe`). If memory is
-/// refused, the answer is an `AllocError`.
+/// The first policy of a text, if there is one, with the text (clause `text`) and the verdict on it. A policy without a fault has
+/// the verdict of `judge` (clause `right`), so a policy that is shown without an error keeps the promise of validation (clause
+/// `safe`). If memory is refused, the answer is an `AllocError`.
 pub fn check_policy<C: ArgumentCheck>(
     alloc: Global,
     settings: &Settings<'_, C>,
@@ -109,6 +117,8 @@ pub fn check_policy<C: ArgumentCheck>(
         (IsRightlySaid (basis_of C.refusal settings.now) settings.now.level)) }
     ensures safe { IfOk result (λ read. IfSome read
         (IsSafeAsShown (basis_of C.refusal settings.now) settings.now.level)) }
+    ensures text { IfOk result (λ read. IfSome read (λ policy.
+        string_bytes policy.text ≡ text.now)) }
 {
     let functions = settings.validator.extensions();
     let Some(reading) = read_policy(alloc, functions, text)? else {

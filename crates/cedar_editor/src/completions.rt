@@ -1,9 +1,10 @@
 //! Completions: names that may be written at a position.
 use crate::checks::CheckedPolicy;
+use crate::expected::{Expected, end_of_id, expected_at, is_in_name};
 use crate::members::{Member, member_of, owner_type};
 use crate::readings::read_policy;
 use crate::spots::{Spot, spot_at};
-use crate::tokens::{Token, TokenKind, is_in_word, token_from};
+use crate::tokens::is_in_word;
 use crate::typed_parts::{TypedPart, types_of};
 use cedar_types::base::{ArgumentCheck, CedarType, Loc, Template, ValidatorSchema};
 use cedar_verdicts::settings::Settings;
@@ -58,20 +59,6 @@ pub struct Completion {
     /// The place of the text that is written so far, which an item replaces.
     pub place: Loc,
     pub items: Vec<Item>,
-}
-
-/// The kind of name that is expected at a byte.
-#[derive(Clone, Copy, PartialEq, Eq)]
-enum Expected {
-    /// An attribute or a method, after `.`.
-    Member,
-    /// An attribute, after `has`.
-    Attribute,
-    EntityType,
-    Action,
-    Operand,
-    /// No name, because the policy has ended.
-    Nothing,
 }
 
 /// The completion at a byte of a policy: the items that may be written there. If memory is refused, the answer is an
@@ -136,56 +123,13 @@ fn completion_in<C: ArgumentCheck>(
         }
         Expected::Nothing => word,
     };
-    let place = Loc { start, end: byte };
+    let written = Loc { start, end: byte };
+    let end = match expected {
+        Expected::Action => end_of_id(text, written),
+        _ => byte,
+    };
+    let place = Loc { start, end };
     Ok(Completion { place, items })
-}
-
-fn is_in_name(c: char) -> bool {
-    is_in_word(c) || c == ':' || c == '"'
-}
-
-/// The kind of name that may stand behind a text, which begins as a policy does.
-fn expected_at(alloc: Global, before: &str) -> Result<Expected, AllocError> {
-    let mut tokens: Vec<Token<'_>> = Vec::new(alloc);
-    let mut at = 0usize;
-    for _ in 0..before.len() {
-        let token = token_from(before, at);
-        if token.kind == TokenKind::End {
-            break;
-        }
-        tokens.push(token)?;
-        at = token.place.end;
-    }
-    Ok(expected_behind(tokens.as_slice()))
-}
-
-/// The kind of name that may stand behind these tokens.
-fn expected_behind(tokens: &[Token<'_>]) -> Expected {
-    let mut is_compared = false;
-    // a comma stands between names that are compared only inside of brackets
-    let mut is_behind_comma = false;
-    for token in tokens.iter().rev() {
-        let is_passed = is_compared || is_behind_comma;
-        match token.text {
-            ";" => return Expected::Nothing,
-            "." if !is_passed => return Expected::Member,
-            "has" if !is_passed => return Expected::Attribute,
-            "is" if !is_behind_comma => return Expected::EntityType,
-            "action" if is_compared && !is_behind_comma => return Expected::Action,
-            "principal" | "resource" if is_compared && !is_behind_comma => {
-                return Expected::EntityType;
-            }
-            "==" | "in" | "::" => is_compared = true,
-            "," => is_behind_comma = true,
-            "[" => {
-                is_compared = true;
-                is_behind_comma = false;
-            }
-            _ if is_passed && matches!(token.kind, TokenKind::Text | TokenKind::Word) => {}
-            _ => return Expected::Operand,
-        }
-    }
-    Expected::Operand
 }
 
 /// Adds the attributes of the expression before a name, and after `.` also its methods: each that one of its types has.

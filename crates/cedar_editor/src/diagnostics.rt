@@ -10,7 +10,7 @@ use cedar_findings::codes::Code;
 use cedar_findings::findings::{Finding, Severity};
 use cedar_types::base::Loc;
 use std::alloc::{AllocError, Global};
-use std::collections::BTreeMap;
+use std::collections::{BTreeMap, HashSet};
 
 /// A diagnostic: a message about a place of a document.
 #[derive(Drop)]
@@ -64,6 +64,9 @@ pub fn add_policy(
     ensures kept { OnOk result (length told.old.items ≤ length told.new.items) }
 {
     let policy = placed.policy();
+    if policy.finding_count() == 0 {
+        return Ok(());
+    }
     if let Some(fault) = &policy.fault {
         let place = placed.place(fault.place);
         told.push(plain(alloc, place, Code::Fault, fault.text.as_str())?)?;
@@ -124,14 +127,9 @@ pub fn of_finding(
 
 /// Whether two policies may have one id, because their ids have one sum.
 fn may_share_ids(alloc: Global, policies: &[PlacedPolicy]) -> Result<bool, AllocError> {
-    let mut sums = Vec::with_capacity(alloc, policies.len())?;
+    let mut seen = HashSet::with_capacity(alloc, policies.len())?;
     for (number, placed) in policies.iter().enumerate() {
-        sums.push(placed.policy.id_sum(alloc, number)?)?;
-    }
-    sums.sort()?;
-    let all = sums.as_slice();
-    for at in 1..all.len() {
-        if all[at - 1] == all[at] {
+        if !seen.insert(placed.policy.id_sum(alloc, number)?)? {
             return Ok(true);
         }
     }

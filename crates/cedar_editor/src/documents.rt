@@ -1,10 +1,12 @@
 //! Texts of policies while they are written. After a change, only the policies that it touches are read and judged again.
-ghost use Rattle.std.specs.Prelude.{◌≡◌, IfOk, OnErr, OnOk};
-ghost use Rattle.cedar_editor.specs.Documents.{AreRightlySaidBy, KeepThePromise};
+ghost use Rattle.std.specs.Prelude.{◌≡◌, ◌↔◌, string_bytes, IfOk, IsTrue, OnErr, OnOk};
+ghost use Rattle.cedar_editor.specs.Documents.{AllStandIn, AreRightlySaidBy, EndsBy, KeepThePromise};
+ghost use Rattle.cedar_editor.specs.Edits.{AreEdited, IsChange, IsSpliced};
+ghost use Rattle.cedar_editor.specs.Lines.{line_starts};
 
 use crate::changes::{add_policies, keep_after, keep_before, read_touched};
 use crate::checks::CheckedPolicy;
-use crate::edits::{Edit, difference, edited, only_edit, place_of, spliced};
+use crate::edits::{Edit, around, difference, edited, joined, only_edit, place_of};
 use crate::lines::{Lines, Position, Range};
 use crate::windows::window_of;
 use cedar_types::base::{ArgumentCheck, ExtensionSchemas, Loc};
@@ -49,6 +51,16 @@ impl PlacedPolicy {
         self.start.saturating_add(self.policy.text.len())
     }
 
+    /// Whether the policy ends at a byte of the document or before it.
+    pub fn ends_by(&self, byte: usize) -> bool
+        ensures { IsTrue result ↔ EndsBy byte self.now }
+    {
+        match byte.checked_sub(self.start) {
+            Some(room) => self.policy.text.len() <= room,
+            None => false,
+        }
+    }
+
     /// The place in the document of a place of the policy's text.
     pub fn place(&self, own: Loc) -> Loc {
         Loc {
@@ -58,12 +70,15 @@ impl PlacedPolicy {
     }
 }
 
-/// A text of policies, with the verdict on each.
+/// A text of policies, with the verdict on each. The lines are those of the text, and the text of each policy stands in it where
+/// the policy begins.
 #[derive(Drop)]
 pub struct PolicyDocument {
     text: String,
     lines: Lines,
     policies: Vec<PlacedPolicy>,
+    ghost lines_of_text: { lines.starts.items ≡ line_starts (string_bytes text) },
+    ghost policies_in_text: { AllStandIn (string_bytes text) policies.items },
 }
 
 impl PolicyDocument {
@@ -73,8 +88,9 @@ impl PolicyDocument {
         judge: &Judge<'_, C>,
         text: &str,
     ) -> Result<PolicyDocument, AllocError>
-        ensures { IfOk result (λ document.
+        ensures right { IfOk result (λ document.
             AreRightlySaidBy C.refusal judge.now document.policies.items) }
+        ensures text { IfOk result (λ document. string_bytes document.text ≡ text.now) }
     {
         let whole = Loc {
             start: 0,
@@ -91,12 +107,16 @@ impl PolicyDocument {
     }
 
     /// The text of the document.
-    pub fn text(&self) -> &str {
+    pub fn text(&self) -> &str
+        ensures { result.now ≡ string_bytes self.now.text }
+    {
         self.text.as_str()
     }
 
     /// The lines of the document's text.
-    pub fn lines(&self) -> &Lines {
+    pub fn lines(&self) -> &Lines
+        ensures { result.now ≡ self.now.lines }
+    {
         &self.lines
     }
 
@@ -163,15 +183,17 @@ impl PolicyDocument {
         Ok(())
     }
 
-    /// Changes the text by edits, one after another. Policies that they do not touch keep their verdicts, which must come from
-    /// this judge (clause `right`). If memory is refused, the answer is an `AllocError`, and nothing has changed (clause
-    /// `kept`).
+    /// Changes the text by edits, one after another (clause `text`). Policies that they do not touch keep their verdicts, which
+    /// must come from this judge (clause `right`). If memory is refused, the answer is an `AllocError`, and nothing has changed
+    /// (clause `kept`).
     pub fn edit<C: ArgumentCheck>(
         &mut self,
         alloc: Global,
         judge: &Judge<'_, C>,
         edits: &[Edit<'_>],
     ) -> Result<(), AllocError>
+        ensures text { OnOk result (AreEdited (string_bytes self.old.text) edits.now
+            (string_bytes self.new.text)) }
         ensures right { OnOk result (AreRightlySaidBy C.refusal judge.now self.old.policies.items
             → AreRightlySaidBy C.refusal judge.now self.new.policies.items) }
         ensures kept { OnErr result (self.new ≡ self.old) }
@@ -184,26 +206,29 @@ impl PolicyDocument {
         self.replace(alloc, judge, text.as_str())
     }
 
-    /// Replaces the whole text. Only the part between the beginning and the end that both texts share counts as changed (clause
-    /// `right`, as for `change`). If memory is refused, the answer is an `AllocError`, and nothing has changed (clause `kept`).
+    /// Replaces the whole text (clause `text`). Only the part between the beginning and the end that both texts share counts as
+    /// changed (clause `right`, as for `change`). If memory is refused, the answer is an `AllocError`, and nothing has changed
+    /// (clause `kept`).
     pub fn replace<C: ArgumentCheck>(
         &mut self,
         alloc: Global,
         judge: &Judge<'_, C>,
         text: &str,
     ) -> Result<(), AllocError>
+        ensures text { OnOk result (string_bytes self.new.text ≡ text.now) }
         ensures right { OnOk result (AreRightlySaidBy C.refusal judge.now self.old.policies.items
             → AreRightlySaidBy C.refusal judge.now self.new.policies.items) }
         ensures kept { OnErr result (self.new ≡ self.old) }
     {
-        let (place, end) = difference(self.text.as_str(), text);
-        let inserted = text.get(place.start..end).unwrap_or("");
-        self.change(alloc, judge, place, inserted)
+        let (place, inserted) = difference(self.text.as_str(), text);
+        let new = String::from_str(alloc, text)?;
+        self.put(alloc, judge, new, place, inserted)
     }
 
-    /// Replaces a part of the text. Policies that the change does not touch keep their verdicts, which must come from this
-    /// judge, and the others are read and judged again, unless an old policy has their text (clause `right`). If memory is
-    /// refused, the answer is an `AllocError`, and nothing has changed (clause `kept`).
+    /// Replaces a part of the text, and nothing if the place is no part of it (clause `text`). Policies that the change does not
+    /// touch keep their verdicts, which must come from this judge, and the others are read and judged again, unless an old policy
+    /// has their text (clause `right`). If memory is refused, the answer is an `AllocError`, and nothing has changed (clause
+    /// `kept`).
     pub fn change<C: ArgumentCheck>(
         &mut self,
         alloc: Global,
@@ -211,24 +236,49 @@ impl PolicyDocument {
         place: Loc,
         inserted: &str,
     ) -> Result<(), AllocError>
+        ensures text { OnOk result (IsSpliced (string_bytes self.old.text) place inserted.now
+            (string_bytes self.new.text)) }
         ensures right { OnOk result (AreRightlySaidBy C.refusal judge.now self.old.policies.items
             → AreRightlySaidBy C.refusal judge.now self.new.policies.items) }
         ensures kept { OnErr result (self.new ≡ self.old) }
     {
-        let text = spliced(alloc, self.text.as_str(), place, inserted)?;
+        let Some((front, behind)) = around(self.text.as_str(), place) else {
+            return Ok(());
+        };
+        let new = joined(alloc, front, inserted, behind)?;
+        self.put(alloc, judge, new, place, inserted.len())
+    }
+
+    /// Puts a changed text in place of the text. The change put `inserted` bytes in place of a part of it.
+    fn put<C: ArgumentCheck>(
+        &mut self,
+        alloc: Global,
+        judge: &Judge<'_, C>,
+        text: String,
+        place: Loc,
+        inserted: usize,
+    ) -> Result<(), AllocError>
+        requires { IsChange (string_bytes self.old.text) place inserted (string_bytes text) }
+        ensures text { OnOk result (self.new.text ≡ text) }
+        ensures right { OnOk result (AreRightlySaidBy C.refusal judge.now self.old.policies.items
+            → AreRightlySaidBy C.refusal judge.now self.new.policies.items) }
+        ensures kept { OnErr result (self.new ≡ self.old) }
+    {
         let new = text.as_str();
-        let lines = self.lines.changed(alloc, new, place, inserted.len())?;
+        let lines = self.lines.changed(alloc, new, place, inserted)?;
         let old = self.policies.as_slice();
-        let touched = read_touched(alloc, old, self.text.len(), new, place, inserted.len())?;
+        let touched = read_touched(alloc, old, self.text.len(), new, place, inserted)?;
         let places = touched.places.as_slice();
         let mut policies = Vec::with_capacity(alloc, old.len())?;
         keep_before(old, touched.first, &mut policies)?;
         add_policies(alloc, judge, new, places, old, &mut policies)?;
-        let new_end = place.start.saturating_add(inserted.len());
+        let new_end = place.start.saturating_add(inserted);
         keep_after(old, touched.last, place.end, new_end, &mut policies)?;
-        self.text = text;
-        self.lines = lines;
-        self.policies = policies;
+        *self = PolicyDocument {
+            text,
+            lines,
+            policies,
+        };
         Ok(())
     }
 }

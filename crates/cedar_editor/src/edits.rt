@@ -1,7 +1,15 @@
 //! Edits: changes of texts, as an editor sends them.
+ghost use Rattle.std.specs.Prelude.{◌≡◌, ℕ, ◌-◌, ◌≤◌, [], ◌∷◌, ◌++◌, Some, length, take, drop, string_bytes, IfOk, IfSome, MatchOption};
+ghost use Rattle.cedar_editor.specs.Edits.{is_edited, AreEdited, IsChange, IsPart, IsSpliced};
+ghost use Rattle.cedar_editor.specs.Lines.{line_starts, IsPositionOf};
+ghost use Rattle.cedar_editor.specs.Units.{IsBoundary};
+
 use crate::lines::{Lines, Range};
 use cedar_types::base::Loc;
 use std::alloc::{AllocError, Global};
+
+/// The number of bytes that are compared at once, where so many are left.
+const BLOCK: usize = 2048;
 
 /// A text that replaces a range, or the whole text if there is no range.
 #[derive(Clone, Copy)]
@@ -12,88 +20,146 @@ pub struct Edit<'a> {
 
 /// The text after these edits, each of which is applied to the result of those before it. If memory is refused, the answer is
 /// an `AllocError`.
-pub fn edited(alloc: Global, text: &str, edits: &[Edit<'_>]) -> Result<String, AllocError> {
+pub fn edited(alloc: Global, text: &str, edits: &[Edit<'_>]) -> Result<String, AllocError>
+    ensures { IfOk result (λ new. AreEdited text.now edits.now (string_bytes new)) }
+{
     let mut whole = String::from_str(alloc, text)?;
     for edit in edits {
-        whole = match edit.range {
-            Some(range) => {
-                let lines = Lines::new(alloc, whole.as_str())?;
-                let place = place_of(&lines, whole.as_str(), range);
-                spliced(alloc, whole.as_str(), place, edit.text)?
-            }
-            None => String::from_str(alloc, edit.text)?,
-        };
+        whole = after(alloc, whole.as_str(), edit)?;
     }
     Ok(whole)
 }
 
+/// The text after one edit.
+fn after(alloc: Global, text: &str, edit: &Edit<'_>) -> Result<String, AllocError>
+    ensures { IfOk result (λ new.
+        is_edited text.now edit.now.range edit.now.text.now (string_bytes new)) }
+{
+    let Some(range) = edit.range else {
+        return String::from_str(alloc, edit.text);
+    };
+    let lines = Lines::new(alloc, text)?;
+    let place = place_of(&lines, text, range);
+    spliced(alloc, text, place, edit.text)
+}
+
 /// The range and the text of the only edit; none if there are several, or if it has no range.
-pub(crate) fn only_edit<'a>(edits: &[Edit<'a>]) -> Option<(Range, &'a str)> {
+pub(crate) fn only_edit<'a>(edits: &[Edit<'a>]) -> Option<(Range, &'a str)>
+    ensures { IfSome result (λ only. edits.now ≡ record { range = Some only.0; text = only.1 } ∷ []) }
+{
     if edits.len() != 1 {
         return None;
     }
-    for edit in edits {
-        if let Some(range) = edit.range {
-            return Some((range, edit.text));
-        }
-    }
-    None
+    let edit = edits[0];
+    Some((edit.range?, edit.text))
 }
 
 /// The place of a range in a text; empty if the range ends before it begins.
-pub(crate) fn place_of(lines: &Lines, text: &str, range: Range) -> Loc {
+pub(crate) fn place_of(lines: &Lines, text: &str, range: Range) -> Loc
+    ensures { (start end : ℕ) → start ≤ end → IsBoundary text.now start → IsBoundary text.now end
+        → IsPositionOf lines.now.starts.items text.now start range.start
+        → IsPositionOf lines.now.starts.items text.now end range.end
+        → (result.start ≡ start) × (result.end ≡ end) }
+{
     let start = lines.byte(text, range.start);
     let end = lines.byte(text, range.end).max(start);
     Loc { start, end }
 }
 
-/// The text with another text in place of one part.
-pub(crate) fn spliced(
+/// The text before a place, and the text behind it; none if the place is no part of the text.
+pub(crate) fn around(text: &str, place: Loc) -> Option<(&str, &str)>
+    ensures { MatchOption result (IsPart text.now place → ⊥) (λ sides. IsPart text.now place
+        × (sides.0.now ≡ take place.start text.now) × (sides.1.now ≡ drop place.end text.now)) }
+{
+    if place.end < place.start {
+        return None;
+    }
+    let (front, _) = text.split_at_checked(place.start)?;
+    let (_, behind) = text.split_at_checked(place.end)?;
+    Some((front, behind))
+}
+
+/// The text with another text in place of one part; the text itself if the place is no part of it.
+fn spliced(alloc: Global, text: &str, place: Loc, inserted: &str) -> Result<String, AllocError>
+    ensures { IfOk result (λ new. IsSpliced text.now place inserted.now (string_bytes new)) }
+{
+    match around(text, place) {
+        Some((front, behind)) => joined(alloc, front, inserted, behind),
+        None => String::from_str(alloc, text),
+    }
+}
+
+/// Three texts, one behind another.
+pub(crate) fn joined(
     alloc: Global,
-    text: &str,
-    place: Loc,
-    inserted: &str,
-) -> Result<String, AllocError> {
-    let front = text.get(..place.start).unwrap_or(text);
-    let behind = text.get(place.end..).unwrap_or("");
+    front: &str,
+    middle: &str,
+    behind: &str,
+) -> Result<String, AllocError>
+    ensures { IfOk result (λ whole.
+        string_bytes whole ≡ front.now ++ (middle.now ++ behind.now)) }
+{
     let size = front
         .len()
-        .saturating_add(inserted.len())
+        .saturating_add(middle.len())
         .saturating_add(behind.len());
     let mut whole = String::with_capacity(alloc, size)?;
     whole.push_str(front)?;
-    whole.push_str(inserted)?;
+    whole.push_str(middle)?;
     whole.push_str(behind)?;
     Ok(whole)
 }
 
-/// The difference of two texts: its place in the first, and the byte at which it ends in the second.
-pub(crate) fn difference(old: &str, new: &str) -> (Loc, usize) {
+/// The part of a text in which it differs from another one, and the number of bytes that stand there in the other one.
+pub(crate) fn difference(old: &str, new: &str) -> (Loc, usize)
+    ensures { IsChange old.now result.0 result.1 new.now }
+{
     let (one, two) = (old.as_bytes(), new.as_bytes());
-    let mut start = one.iter().zip(two).take_while(|(a, b)| a == b).count();
-    for _ in 0..4 {
-        if old.get(..start).is_some() && new.get(..start).is_some() {
-            break;
-        }
-        start = start.saturating_sub(1);
-    }
-    let most = one.len().min(two.len()).saturating_sub(start);
-    let mut same = one
-        .iter()
-        .rev()
-        .zip(two.iter().rev())
-        .take(most)
-        .take_while(|(a, b)| a == b)
-        .count();
-    for _ in 0..4 {
-        if old.get(one.len().saturating_sub(same)..).is_some() {
-            break;
-        }
-        same = same.saturating_sub(1);
-    }
+    let start = shared_front(one, two);
+    let most = one.len().min(two.len()) - start;
+    let behind = shared_back(one, two, most);
     let place = Loc {
         start,
-        end: one.len().saturating_sub(same),
+        end: one.len() - behind,
     };
-    (place, two.len().saturating_sub(same))
+    (place, two.len() - behind - start)
+}
+
+/// The number of bytes with which both texts begin.
+fn shared_front(one: &[u8], two: &[u8]) -> usize
+    ensures in_one { result ≤ length one.now }
+    ensures in_two { result ≤ length two.now }
+    ensures shared { take result one.now ≡ take result two.now }
+{
+    let most = one.len().min(two.len());
+    let mut at = 0;
+    while BLOCK <= most - at && one[at..at + BLOCK] == two[at..at + BLOCK] {
+        at += BLOCK;
+    }
+    while at < most && one[at] == two[at] {
+        at += 1;
+    }
+    at
+}
+
+/// The number of bytes with which both texts end, at most so many.
+fn shared_back(one: &[u8], two: &[u8], most: usize) -> usize
+    requires in_one { most ≤ length one.now }
+    requires in_two { most ≤ length two.now }
+    ensures few { result ≤ most }
+    ensures shared { drop (length one.now - result) one.now
+        ≡ drop (length two.now - result) two.now }
+{
+    let (first, second) = (one.len() - most, two.len() - most);
+    let mut left = most;
+    while BLOCK <= left
+        && one[first + (left - BLOCK)..first + left]
+            == two[second + (left - BLOCK)..second + left]
+    {
+        left -= BLOCK;
+    }
+    while 0 < left && one[first + left - 1] == two[second + left - 1] {
+        left -= 1;
+    }
+    most - left
 }

@@ -2,6 +2,7 @@
 
 use crate::checks::{CheckedPolicy, check_policy, place_of};
 use crate::spots::spot_at;
+use crate::tokens::{is_in_word, token_from};
 use cedar_findings::codes::Code;
 use cedar_findings::findings::Finding;
 use cedar_types::base::{ArgumentCheck, Loc};
@@ -48,14 +49,13 @@ fn suggested(
     let hint = finding.hint.as_str();
     let place = place_of(finding);
     if let Some(name) = between(hint, MEANT.0, MEANT.1) {
-        let start = match finding.code {
-            Code::UnknownAttribute => start_of_word(policy.text.as_str(), place),
-            _ => place.start,
+        let place = match finding.code {
+            Code::UnknownAttribute => name_in(policy.text.as_str(), place),
+            _ => place,
         };
-        let end = place.end;
         return Ok(Some(Fix {
             title: format!(in alloc; "Write `{name}`")?,
-            place: Loc { start, end },
+            place,
             text: String::from_str(alloc, name)?,
         }));
     }
@@ -72,11 +72,33 @@ fn between<'a>(text: &'a str, front: &str, behind: &str) -> Option<&'a str> {
     text.strip_prefix(front)?.strip_suffix(behind)
 }
 
-/// The byte at which the last word of a place begins.
-fn start_of_word(text: &str, place: Loc) -> usize {
-    let part = text.get(place.start..place.end).unwrap_or("");
-    let front = part.trim_end_matches(|c: char| c.is_alphanumeric() || c == '_');
-    place.start.saturating_add(front.len())
+/// The place of the name in an access: of its last word, or of the text between the quotes of `["name"]`.
+fn name_in(text: &str, access: Loc) -> Loc {
+    let part = text.get(access.start..access.end).unwrap_or("");
+    let indexed = part.strip_suffix("\"]").unwrap_or("");
+    match indexed.rsplit_once('"') {
+        Some((front, _)) => Loc {
+            start: access.start.saturating_add(front.len()).saturating_add(1),
+            end: access.start.saturating_add(indexed.len()),
+        },
+        None => Loc {
+            start: access
+                .start
+                .saturating_add(part.trim_end_matches(is_in_word).len()),
+            end: access.end,
+        },
+    }
+}
+
+/// The byte at which a test of an operand may stand. The operand of `unless { e }` begins with that word, because it is `!e`, so
+/// the test stands before `e`.
+fn front_of(text: &str, operand: Loc) -> usize {
+    let word = token_from(text, operand.start);
+    if !word.is("unless") {
+        return operand.start;
+    }
+    let brace = token_from(text, word.place.end);
+    token_from(text, brace.place.end).place.start
 }
 
 /// The change that puts a test before the operand of `&&`, `||` or `if` in which the access stands.
@@ -99,7 +121,7 @@ fn guard(
     let Some(operand) = spot.operand.loc else {
         return Ok(None);
     };
-    let start = operand.start;
+    let start = front_of(policy.text.as_str(), operand);
     Ok(Some(Fix {
         title: format!(in alloc; "Test `{test}` before it")?,
         place: Loc { start, end: start },

@@ -10,6 +10,8 @@ pub mod definitions;
 pub mod diagnostics;
 pub mod documents;
 pub mod edits;
+pub mod examples;
+mod expected;
 pub mod fixes;
 pub mod hovers;
 pub mod lines;

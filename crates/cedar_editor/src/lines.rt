@@ -1,6 +1,8 @@
 //! Positions in the form of the editors' protocol: a line, counted from 0, and units of UTF-16 from its beginning.
-ghost use Rattle.std.specs.Prelude.{◌≡◌, ◌↔◌, ℕ, ◌<◌, ◌≤◌, length, slice_index, IsTrue};
-ghost use Rattle.cedar_editor.specs.Lines.{start_in, IsPositionOf};
+ghost use Rattle.std.specs.Prelude.{◌≡◌, ◌↔◌, ℕ, ◌+◌, ◌-◌, ◌<◌, ◌≤◌, ◌++◌, List, length, map, filter, nat_lt, slice_index, IfOk, IsTrue, OnOk};
+ghost use Rattle.std.specs.List.{range_with_len};
+ghost use Rattle.cedar_editor.specs.Lines.{begins_line, line_starts, moved_byte, start_in, IsPositionOf};
+ghost use Rattle.cedar_editor.specs.Edits.{spliced_text};
 ghost use Rattle.cedar_editor.specs.Units.{IsBoundary};
 
 use crate::offsets::{bytes_before, units_of};
@@ -29,34 +31,33 @@ pub struct Lines {
 
 impl Lines {
     /// The lines of this text.
-    pub fn new(alloc: Global, text: &str) -> Result<Lines, AllocError> {
+    pub fn new(alloc: Global, text: &str) -> Result<Lines, AllocError>
+        ensures { IfOk result (λ lines. lines.starts.items ≡ line_starts text.now) }
+    {
         let mut starts = Vec::new(alloc);
         add_starts(text.as_bytes(), 0, text.len(), &mut starts)?;
         Ok(Lines { starts })
     }
 
-    /// The lines of a changed text. These are the lines of the text before the change, which put `inserted` bytes in place of
-    /// those at `place`.
+    /// The lines of a changed text, if these are the lines of the text before the change, which put `inserted` bytes in place of
+    /// those at `place`. If memory is refused, the answer is an `AllocError`.
     pub fn changed(
         &self,
         alloc: Global,
         text: &str,
         place: Loc,
         inserted: usize,
-    ) -> Result<Lines, AllocError> {
+    ) -> Result<Lines, AllocError>
+        ensures { IfOk result (λ lines. (old given : List ℕ) → self.now.starts.items ≡ line_starts old
+            → place.start ≤ place.end → place.end ≤ length old → inserted ≡ length given
+            → text.now ≡ spliced_text old place.start place.end given
+            → lines.starts.items ≡ line_starts text.now) }
+    {
         let mut starts = Vec::with_capacity(alloc, self.starts.len())?;
-        for start in &self.starts {
-            if *start < place.start {
-                starts.push(*start)?;
-            }
-        }
-        let end = place.start.saturating_add(inserted);
+        let end = place.start.saturating_add(inserted).min(text.len());
+        add_before(&self.starts, place.start, &mut starts)?;
         add_starts(text.as_bytes(), place.start, end, &mut starts)?;
-        for start in &self.starts {
-            if *start > place.end {
-                starts.push(start.saturating_sub(place.end).saturating_add(end))?;
-            }
-        }
+        add_behind(&self.starts, place.end, end, &mut starts)?;
         Ok(Lines { starts })
     }
 
@@ -160,13 +161,54 @@ fn is_end(byte: u8) -> bool {
     byte == b'\n' || byte == b'\r'
 }
 
+/// Adds those of these bytes that stand before a byte.
+fn add_before(starts: &[usize], byte: usize, kept: &mut Vec<usize>) -> Result<(), AllocError>
+    ensures { OnOk result (kept.new.items
+        ≡ kept.old.items ++ filter (λ k. nat_lt k byte) starts.now) }
+{
+    for start in starts {
+        if *start < byte {
+            kept.push(*start)?;
+        }
+    }
+    Ok(())
+}
+
+/// Adds those of these bytes that stand behind a change, which ended at `old_end` and ends at `new_end` now.
+fn add_behind(
+    starts: &[usize],
+    old_end: usize,
+    new_end: usize,
+    kept: &mut Vec<usize>,
+) -> Result<(), AllocError>
+    ensures { OnOk result (kept.new.items ≡ kept.old.items
+        ++ map (moved_byte old_end new_end) (filter (λ k. nat_lt old_end k) starts.now)) }
+{
+    for start in starts {
+        if old_end < *start {
+            kept.push(moved(*start, old_end, new_end))?;
+        }
+    }
+    Ok(())
+}
+
+/// The place of a byte behind a change, once the change is made.
+pub(crate) fn moved(byte: usize, old_end: usize, new_end: usize) -> usize
+    ensures { result ≡ moved_byte old_end new_end byte }
+{
+    byte.saturating_sub(old_end).saturating_add(new_end)
+}
+
 /// Adds the bytes at which lines begin, from one byte of a text to another.
 fn add_starts(
     bytes: &[u8],
     from: usize,
     to: usize,
     starts: &mut Vec<usize>,
-) -> Result<(), AllocError> {
+) -> Result<(), AllocError>
+    ensures { OnOk result (to ≤ length bytes.now → from ≤ to → starts.new.items ≡ starts.old.items
+        ++ filter (begins_line bytes.now) (range_with_len from (to + 1 - from))) }
+{
     for start in from..to.min(bytes.len()).saturating_add(1) {
         if begins_line(bytes, start) {
             starts.push(start)?;
@@ -176,13 +218,15 @@ fn add_starts(
 }
 
 /// Whether a line other than the first begins at a byte.
-fn begins_line(bytes: &[u8], start: usize) -> bool {
-    let Some(last) = start.checked_sub(1) else {
+fn begins_line(bytes: &[u8], start: usize) -> bool
+    ensures { result ≡ begins_line bytes.now start }
+{
+    if start == 0 || bytes.len() < start {
         return false;
-    };
-    match bytes.get(last).copied() {
-        Some(b'\n') => true,
-        Some(b'\r') => bytes.get(start).copied() != Some(b'\n'),
+    }
+    match bytes[start - 1] {
+        b'\n' => true,
+        b'\r' => start == bytes.len() || bytes[start] != b'\n',
         _ => false,
     }
 }

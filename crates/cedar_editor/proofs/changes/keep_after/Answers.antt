@@ -1,6 +1,7 @@
-use Rattle.std.proofs.Common.{◌≡◌, ◌∙◌, ℕ, map, ap}
+use Rattle.std.proofs.Common.{◌∙◌, ℕ, map, ap}
 use Rattle.cedar_editor.specs.declared.checks.CheckedPolicy.{CheckedPolicy}
-use Rattle.cedar_editor.specs.Documents.{moved_byte, moved_policy, placed_policy}
+use Rattle.cedar_editor.specs.Documents.{moved_policy, placed_policy}
+use Rattle.cedar_editor.specs.Lines.{moved_byte}
 use Rattle.cedar_editor.proofs.Kept.{one_kept}
 use Rattle.cedar_editor.proofs.changes.keep_after.Goals as goal
 

@@ -1,4 +1,4 @@
-use Rattle.std.proofs.Common.{ℕ, map, ap}
+use Rattle.std.proofs.Common.{map, ap}
 use Rattle.cedar_editor.specs.declared.checks.CheckedPolicy.{CheckedPolicy}
 use Rattle.cedar_editor.specs.Documents.{placed_policy}
 use Rattle.cedar_editor.proofs.Kept.{one_kept}

@@ -1,4 +1,4 @@
-use Rattle.std.proofs.Common.{◌≡◌, ◌∙◌, ℕ, ◌<◌, get_or, sym, arith}
+use Rattle.std.proofs.Common.{◌∙◌, ◌<◌, get_or, sym, arith}
 use Rattle.cedar_editor.specs.Units.{weight}
 use Rattle.cedar_editor.proofs.Units.{only_boundary}
 use Rattle.cedar_editor.proofs.offsets.bytes_before.Goals as goal
