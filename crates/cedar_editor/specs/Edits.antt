@@ -30,7 +30,8 @@ pub record IsChange (old : List ℕ) (place : Loc) (size : ℕ) (new : List ℕ)
   pub spliced : new ≡ spliced_text old place.start place.end inserted
 
 -- one edit of a text: without a range it is the whole new text, else it takes the place of the part from the byte at which the
--- range begins to the byte at which it ends; nothing is claimed of a range that begins or ends inside a character or behind a line
+-- range begins to the byte at which it ends; nothing is claimed of a range that goes backwards, or that begins or ends inside a
+-- character or behind a line
 abbrev pub is_edited : List ℕ → Option Range → List ℕ → List ℕ → Type 0
 is_edited old None text new = new ≡ text
 is_edited old (Some range) text new =

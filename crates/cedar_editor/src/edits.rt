@@ -45,7 +45,8 @@ fn after(alloc: Global, text: &str, edit: &Edit<'_>) -> Result<String, AllocErro
 
 /// The range and the text of the only edit; none if there are several, or if it has no range.
 pub(crate) fn only_edit<'a>(edits: &[Edit<'a>]) -> Option<(Range, &'a str)>
-    ensures { IfSome result (λ only. edits.now ≡ record { range = Some only.0; text = only.1 } ∷ []) }
+    ensures { IfSome result (λ only.
+        edits.now ≡ record { range = Some only.0; text = only.1 } ∷ []) }
 {
     if edits.len() != 1 {
         return None;

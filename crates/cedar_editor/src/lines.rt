@@ -48,7 +48,8 @@ impl Lines {
         place: Loc,
         inserted: usize,
     ) -> Result<Lines, AllocError>
-        ensures { IfOk result (λ lines. (old given : List ℕ) → self.now.starts.items ≡ line_starts old
+        ensures { IfOk result (λ lines. (old given : List ℕ)
+            → self.now.starts.items ≡ line_starts old
             → place.start ≤ place.end → place.end ≤ length old → inserted ≡ length given
             → text.now ≡ spliced_text old place.start place.end given
             → lines.starts.items ≡ line_starts text.now) }
