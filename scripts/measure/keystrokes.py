@@ -88,9 +88,9 @@ def question(method, at):
 LINE = "{what}, in a document of {size} policies by 300 actions of shared types: {figure} million instructions"
 ROWS = (
     Row("a schema is read and a document opened", (10, 1000), lambda bench, size: millions(opened(bench, size, policy)), LINE),
-    Row("a keystroke in a policy of one action, sent as a range", (10, 1000), keystroke(policy, True), LINE, most=4),
+    Row("a keystroke in a policy of one action, sent as a range", (10, 1000), keystroke(policy, True), LINE, most=2.5),
     Row("a keystroke in a policy of one action, sent as the whole text", (10, 1000), keystroke(policy, False), LINE),
-    Row("a keystroke in a policy of all actions, sent as a range", (10, 1000), keystroke(wide, True), LINE, most=13),
+    Row("a keystroke in a policy of all actions, sent as a range", (10, 1000), keystroke(wide, True), LINE, most=11),
     Row("hover", (10,), question("hover", 25), LINE, most=2.5),
     Row("completion", (10,), question("completion", 34), LINE, most=2.5),
     Row("definition", (10,), question("definition", 34), LINE, most=2.5),

@@ -1,6 +1,10 @@
+pub mod FirstLines
+pub mod IdSums
 pub mod Kept
+pub mod KnownIds
 pub mod MadeEdits
 pub mod Shown
 pub mod Standing
 pub mod Starts
+pub mod Told
 pub mod Units

@@ -1,8 +1,6 @@
 -- Edits, one after another, and the difference of two texts.
-use Rattle.std.proofs.Common.{◌≡◌, ◌∙◌, ℕ, ◌+◌, ◌-◌, ◌<◌, ◌≤◌, Bool, true, Some, List, [], ◌∷◌, ◌++◌, length, take, drop, get_or, min, slice_range, refl, sym, ap, subst, arith, length-take, length-drop}
+use Rattle.std.proofs.Common.{◌≡◌, ◌∙◌, ℕ, ◌+◌, ◌-◌, ◌<◌, ◌≤◌, Some, List, [], ◌∷◌, ◌++◌, length, take, drop, get_or, min, slice_range, refl, sym, ap, subst, arith, length-take, length-drop}
 use Rattle.std.proofs.lemmas.List.{drop-drop, drop-take, take-append-drop, take-take, take_more}
-use Rattle.std.proofs.lemmas.Slice.Eq.{bytes_eq-Decides}
-use Rattle.std.specs.Str.{bytes_eq}
 use Rattle.cedar_editor.specs.Edits.{is_edited, spliced_text, AreEdited, IsChange, IsSpliced}
 use Rattle.cedar_editor.specs.Lines.{line_starts, IsPositionOf}
 use Rattle.cedar_editor.specs.Units.{IsBoundary}
@@ -24,10 +22,6 @@ pub one_more_edit : (old : List ℕ) (es : List Edit) (i : ℕ) (d : Edit) (was 
 one_more_edit old es i d was new below before made =
     subst (λ (fs : List Edit). AreEdited old fs new) (sym (take_more es i d below))
     (one_edit_behind old (take i es) (get_or es i d) was new before made)
-
--- two parts of texts are alike if a test of them says so
-pub alike : (xs ys : List ℕ) (r : Bool) → r ≡ bytes_eq xs ys → r ≡ true → xs ≡ ys
-alike xs ys r is holds = (bytes_eq-Decides xs ys).0 (sym is ∙ holds)
 
 front_parts : (xs : List ℕ) (at n : ℕ) → take (at + n) xs ≡ take at xs ++ take n (drop at xs)
 front_parts xs at n =
@@ -63,7 +57,7 @@ alike_before xs ys i j k l at_one at_two size part back =
     ∙ sym (back_parts ys j (l - j)))))
 
 -- texts that begin alike and end alike differ in the part between
-change_of : (old new : List ℕ) (start behind : ℕ) → start ≤ length old → start ≤ length new
+pub change_of : (old new : List ℕ) (start behind : ℕ) → start ≤ length old → start ≤ length new
     → behind ≤ min (length old) (length new) - start → take start old ≡ take start new
     → drop (length old - behind) old ≡ drop (length new - behind) new
     → IsChange old (record { start = start; end = length old - behind }) (length new - behind - start) new
@@ -82,18 +76,6 @@ change_of old new start behind in_old in_new few front back =
           ∙ ap (λ (l : List ℕ). take size (drop start new) ++ l)
           (drop-drop size start new ∙ (ap (λ (n : ℕ). drop n new) at ∙ sym back))));
     }
-
--- the difference of two texts by their bytes
-pub change_between : (old new one two : List ℕ) (start behind : ℕ) → one ≡ old → two ≡ new → start ≤ length one → start ≤ length two
-    → behind ≤ min (length one) (length two) - start → take start one ≡ take start two
-    → drop (length one - behind) one ≡ drop (length two - behind) two
-    → IsChange old (record { start = start; end = length one - behind }) (length two - behind - start) new
-change_between old new one two start behind is_one is_two in_one in_two few front back =
-    let place : Loc = record { start = start; end = length one - behind } in
-    let size : ℕ = length two - behind - start in
-    subst (λ (text : List ℕ). IsChange text place size new) is_one
-    (subst (λ (text : List ℕ). IsChange one place size text) is_two
-    (change_of one two start behind in_one in_two few front back))
 
 -- a text is edited if the part between the bytes of the range is replaced
 pub edited_at : (text : List ℕ) (place : Loc) (given new : List ℕ) (range : Range) (starts : List ℕ) → starts ≡ line_starts text

@@ -2,8 +2,6 @@
 use Rattle.std.proofs.Common.{◌≡◌, ℕ, ◌<◌, Bool, true, false, ◌&&◌, not, Option, Some, None, List, [], ◌∷◌, length, refl, sym, ap, ◌∙◌, subst, arith}
 use Rattle.cedar_types.specs.Templates.{PlainTemplate, template_of}
 use Rattle.cedar_typing.specs.Soundness.Policies.{Basis}
-use Rattle.cedar_typechecker.specs.declared.survey.Survey.{Survey}
-use Rattle.cedar_typechecker.specs.Surveys.{IsSurveyOf}
 use Rattle.cedar_findings.specs.declared.faults.TextFault.{TextFault}
 use Rattle.cedar_findings.specs.declared.findings.Finding.{Finding}
 use Rattle.cedar_findings.specs.declared.findings.Verdict.{Verdict}

@@ -1,5 +1,5 @@
 -- Policies as they are shown, and the promise of a policy that is shown without an error.
-use Rattle.std.specs.Prelude.{◌≡◌, ℕ, Bool, true, false, Option, Some, None, List, [], ◌∷◌}
+use Rattle.std.specs.Prelude.{◌≡◌, ℕ, ◌+◌, Bool, true, false, Option, Some, None, List, [], ◌∷◌, length}
 use Rattle.cedar_types.specs.Templates.{template_of}
 use Rattle.cedar_typing.specs.Soundness.Policies.{Basis}
 use Rattle.cedar_typechecker.specs.declared.survey.Survey.{Survey}
@@ -30,6 +30,20 @@ shows_error None v = verdict_has_error v
 -- an error of a checked policy is shown
 abbrev pub has_shown_error : CheckedPolicy → Bool
 has_shown_error p = shows_error p.fault p.verdict
+
+-- ---- findings that are shown
+
+abbrev pub count_of_fault : Option TextFault → ℕ
+count_of_fault None = 0
+count_of_fault (Some f) = 1
+
+abbrev pub count_of_verdict : Option Verdict → ℕ
+count_of_verdict None = 0
+count_of_verdict (Some v) = length v.errors.items + length v.warnings.items
+
+-- the fault, the errors and the warnings of a checked policy
+abbrev pub finding_count : CheckedPolicy → ℕ
+finding_count p = count_of_fault p.fault + count_of_verdict p.verdict
 
 -- ---- right verdicts
 

@@ -8,7 +8,6 @@ use Rattle.cedar_editor.specs.Checks.{has_shown_error, IsRightlySaid}
 use Rattle.cedar_editor.specs.Lines.{moved_byte}
 use Rattle.cedar_editor.specs.declared.checks.CheckedPolicy.{CheckedPolicy}
 use Rattle.cedar_editor.specs.declared.documents.Judge.{Judge}
-use Rattle.cedar_editor.specs.declared.documents.Judge.TheVariants as Judge
 use Rattle.cedar_editor.specs.declared.documents.PlacedPolicy.{PlacedPolicy}
 
 -- the verdict on a policy is right by these settings, wherever the policy stands; a judge without a schema gives no verdict, so

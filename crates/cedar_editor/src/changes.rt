@@ -2,24 +2,27 @@
 ghost use Rattle.std.specs.Prelude.{◌≡◌, ◌+◌, ◌≤◌, ◌++◌, drop, length, map, slice_range, take, string_bytes, All, IfOk, IfSome, OnOk};
 ghost use Rattle.cedar_editor.specs.Documents.{is_said_by, moved_policy, placed_policy, AllStandIn, AreRightlySaidBy, BeginsBehind, EndsBy};
 
-use crate::checks::{CheckedPolicy, check_policy, read_alone};
+use crate::checks::{CheckedPolicy, judged, unjudged};
 use crate::documents::{Judge, PlacedPolicy};
 use crate::lines::moved;
-use crate::windows::{Window, window_of};
-use cedar_types::base::{ArgumentCheck, Loc};
+use crate::readings::{Reading, is_read_alone, read_policy, reading_of};
+use crate::tokens::behind_blanks;
+use crate::windows::{Found, Window, window_of};
+use cedar_reading::{FaultyPolicy, ReadPolicy};
+use cedar_types::base::{ArgumentCheck, ExtensionSchemas, Loc};
 use std::alloc::{AllocError, Global};
 use std::rc::Rc;
 
-/// The policies that a change touches: those from the number `first` up to `last`, which is not one of them, and the places in
-/// the new text of the policies that stand there now.
+/// The policies that a change touches: those from the number `first` up to `last`, which is not one of them, and the policies
+/// that stand there now.
 #[derive(Drop)]
 pub struct Touched {
     pub first: usize,
     pub last: usize,
-    pub places: Vec<Loc>,
+    pub found: Vec<Found>,
 }
 
-/// The policies of a text that a change touches, and the places of those that stand there now. A policy with a fault right
+/// The policies of a text that a change touches, and those that stand there now. A policy with a fault right
 /// before the change is read again too, because it ends at the byte at which the next one seems to begin. Reading goes on until
 /// a policy ends at a byte at which an old one ended. The policies before them end before the change (clause `before`), and
 /// those behind them begin behind it (clause `behind`).
@@ -39,7 +42,7 @@ pub fn read_touched(
     let first = first_touched(old, place.start);
     let least = last_touched(old, place.end).max(first.saturating_add(1));
     let mut last = behind_fault(old, least);
-    let start = end_before(old, first);
+    let start = behind_blanks(text, end_before(old, first));
     let mut step = 1usize;
     for _ in 0..old.len().saturating_add(1) {
         let old_end = if last < old.len() {
@@ -48,13 +51,9 @@ pub fn read_touched(
             old_size
         };
         let end = moved(old_end, place.end, place.start.saturating_add(inserted));
-        let Window { places, is_settled } = window_of(alloc, text, Loc { start, end })?;
+        let Window { found, is_settled } = window_of(alloc, text, Loc { start, end })?;
         if is_settled {
-            return Ok(Touched {
-                first,
-                last,
-                places,
-            });
+            return Ok(Touched { first, last, found });
         }
         last = last.saturating_add(step);
         step = step.saturating_mul(2);
@@ -63,11 +62,11 @@ pub fn read_touched(
         start,
         end: text.len(),
     };
-    let Window { places, .. } = window_of(alloc, text, whole)?;
+    let Window { found, .. } = window_of(alloc, text, whole)?;
     Ok(Touched {
         first,
         last: old.len(),
-        places,
+        found,
     })
 }
 
@@ -156,13 +155,13 @@ pub fn keep_after(
     Ok(())
 }
 
-/// Adds the policies at these places of a text, each where it stands (clause `placed`). A policy that has the text of a known
-/// one is not read or judged again.
+/// Adds policies that were found in a text, each where it stands (clause `placed`). A policy that has the text of a known one is
+/// not judged again.
 pub fn add_policies<C: ArgumentCheck>(
     alloc: Global,
     judge: &Judge<'_, C>,
     text: &str,
-    places: &[Loc],
+    found: Vec<Found>,
     known: &[PlacedPolicy],
     policies: &mut Vec<PlacedPolicy>,
 ) -> Result<(), AllocError>
@@ -172,9 +171,9 @@ pub fn add_policies<C: ArgumentCheck>(
     ensures placed { OnOk result (AllStandIn text.now policies.old.items
         → AllStandIn text.now policies.new.items) }
 {
-    for place in places {
-        let own = part_at(text, *place);
-        let Some(policy) = policy_of(alloc, judge, own, known)? else {
+    for Found { place, read } in found {
+        let own = part_at(text, place);
+        let Some(policy) = policy_of(alloc, judge, own, read, known)? else {
             continue;
         };
         policies.push(PlacedPolicy {
@@ -192,11 +191,12 @@ fn part_at(text: &str, place: Loc) -> &str
     text.get(place.start..place.end).unwrap_or("")
 }
 
-/// The policy of this text: a known policy with this text if there is one, else one that is read and judged.
+/// The policy of this text: a known policy with this text if there is one, else one that is judged, and read if it was not.
 fn policy_of<C: ArgumentCheck>(
     alloc: Global,
     judge: &Judge<'_, C>,
     own: &str,
+    read: Option<Result<ReadPolicy, FaultyPolicy>>,
     known: &[PlacedPolicy],
 ) -> Result<Option<Rc<CheckedPolicy>>, AllocError>
     ensures right { IfOk result (λ found. AreRightlySaidBy C.refusal judge.now known.now
@@ -209,12 +209,27 @@ fn policy_of<C: ArgumentCheck>(
             return Ok(Some(placed.policy.clone()?));
         }
     }
-    let read = match judge {
-        Judge::Reading(functions) => read_alone(alloc, functions, own)?,
-        Judge::Settings(settings) => check_policy(alloc, settings, own)?,
+    let Some(reading) = reading_in(alloc, judge.functions(), own, read)? else {
+        return Ok(None);
     };
+    let policy = match judge {
+        Judge::Reading(_) => unjudged(alloc, own, reading)?,
+        Judge::Settings(settings) => judged(alloc, settings, own, reading)?,
+    };
+    Ok(Some(Rc::new(alloc, policy)?))
+}
+
+/// The reading of this text: as the policy was read, if it was read as alone, else anew.
+fn reading_in<C>(
+    alloc: Global,
+    functions: &ExtensionSchemas<C>,
+    own: &str,
+    read: Option<Result<ReadPolicy, FaultyPolicy>>,
+) -> Result<Option<Reading>, AllocError> {
     match read {
-        Some(policy) => Ok(Some(Rc::new(alloc, policy)?)),
-        None => Ok(None),
+        Some(read) if is_read_alone(own, &read) => {
+            Ok(Some(reading_of(alloc, functions, own, read)?))
+        }
+        _ => read_policy(alloc, functions, own),
     }
 }

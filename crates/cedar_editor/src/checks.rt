@@ -1,7 +1,9 @@
 //! Policies of a text, each with the verdict on it.
-ghost use Rattle.std.specs.Prelude.{◌≡◌, false, string_bytes, IfOk, IfSome};
+ghost use Rattle.std.specs.Prelude.{◌≡◌, min, string_bytes, IfOk, IfSome};
+ghost use Rattle.cedar_types.specs.Names.{text_of};
 ghost use Rattle.cedar_verdicts.specs.Verdicts.{basis_of};
-ghost use Rattle.cedar_editor.specs.Checks.{has_shown_error, IsRightlySaid, IsSafeAsShown};
+ghost use Rattle.cedar_editor.specs.Checks.{finding_count, has_shown_error, IsRightlySaid, IsSafeAsShown};
+ghost use Rattle.cedar_editor.specs.Ids.{id_of, sum_of};
 
 use crate::readings::{FaultyReading, Reading, read_policy};
 use cedar_findings::faults::TextFault;
@@ -9,7 +11,9 @@ use cedar_findings::findings::{Finding, Requirement, Verdict};
 use cedar_types::base::{ArgumentCheck, ExtensionSchemas, Loc, Template};
 use cedar_verdicts::settings::Settings;
 use cedar_verdicts::verdicts::judge;
+use itoa::Buffer;
 use std::alloc::{AllocError, Global};
+use std::rc::RcStr;
 
 /// A policy with the verdict on it. All places are bytes of the policy's own text.
 #[derive(Drop)]
@@ -28,16 +32,23 @@ pub struct CheckedPolicy {
 
 impl CheckedPolicy {
     /// The id of the policy, if `number` policies come before it. If memory is refused, the answer is an `AllocError`.
-    pub fn id(&self, alloc: Global, number: usize) -> Result<String, AllocError> {
+    pub fn id(&self, alloc: Global, number: usize) -> Result<RcStr, AllocError>
+        ensures { IfOk result (λ id. text_of id ≡ id_of number self.now) }
+    {
         if self.names_itself {
-            return String::from_str(alloc, self.template.id.text.as_str());
+            return self.template.id.text.clone();
         }
-        format!(in alloc; "policy{number}")
+        let mut id = String::from_str(alloc, "policy")?;
+        let mut digits = Buffer::new();
+        id.push_str(digits.format(number))?;
+        RcStr::from_str(alloc, id.as_str())
     }
 
     /// A number that policies with one id share, and most others do not, by the number of policies that come before it. If memory
     /// is refused, the answer is an `AllocError`.
-    pub fn id_sum(&self, alloc: Global, number: usize) -> Result<u64, AllocError> {
+    pub fn id_sum(&self, alloc: Global, number: usize) -> Result<u64, AllocError>
+        ensures { IfOk result (λ sum. sum ≡ sum_of (id_of number self.now)) }
+    {
         if self.names_itself {
             return Ok(sum_of(self.template.id.text.as_str()));
         }
@@ -45,9 +56,9 @@ impl CheckedPolicy {
         Ok(sum_of(id.as_str()))
     }
 
-    /// The number of findings that are shown of the policy. If it is 0, no error is shown.
+    /// The number of findings that are shown of the policy: its fault, its errors and its warnings.
     pub fn finding_count(&self) -> usize
-        ensures { result ≡ 0 → has_shown_error self.now ≡ false }
+        ensures { result ≡ min (finding_count self.now) 18446744073709551615 }
     {
         let said = match &self.verdict {
             Some(verdict) => verdict.errors.len().saturating_add(verdict.warnings.len()),
@@ -81,28 +92,10 @@ pub fn read_alone<C>(
     ensures text { IfOk result (λ read. IfSome read (λ policy.
         string_bytes policy.text ≡ text.now)) }
 {
-    let Some(reading) = read_policy(alloc, functions, text)? else {
-        return Ok(None);
-    };
-    let own = String::from_str(alloc, text)?;
-    let names_itself = reading.names_itself(text);
-    let (template, fault) = match reading {
-        Reading::Whole(template) => (template, None),
-        Reading::Faulty(
-            FaultyReading {
-                template,
-                fault,
-                ..
-            },
-        ) => (template, Some(fault)),
-    };
-    Ok(Some(CheckedPolicy {
-        text: own,
-        template,
-        names_itself,
-        fault,
-        verdict: None,
-    }))
+    match read_policy(alloc, functions, text)? {
+        Some(reading) => Ok(Some(unjudged(alloc, text, reading)?)),
+        None => Ok(None),
+    }
 }
 
 /// The first policy of a text, if there is one, with the text (clause `text`) and the verdict on it. A policy without a fault has
@@ -120,22 +113,65 @@ pub fn check_policy<C: ArgumentCheck>(
     ensures text { IfOk result (λ read. IfSome read (λ policy.
         string_bytes policy.text ≡ text.now)) }
 {
-    let functions = settings.validator.extensions();
-    let Some(reading) = read_policy(alloc, functions, text)? else {
-        return Ok(None);
+    match read_policy(alloc, settings.validator.extensions(), text)? {
+        Some(reading) => Ok(Some(judged(alloc, settings, text, reading)?)),
+        None => Ok(None),
+    }
+}
+
+/// The policy that was read from this text, without a verdict.
+pub(crate) fn unjudged(
+    alloc: Global,
+    text: &str,
+    reading: Reading,
+) -> Result<CheckedPolicy, AllocError>
+    ensures verdict { IfOk result (λ policy. policy.verdict ≡ None) }
+    ensures text { IfOk result (λ policy. string_bytes policy.text ≡ text.now) }
+{
+    let own = String::from_str(alloc, text)?;
+    let names_itself = reading.names_itself(text);
+    let (template, fault) = match reading {
+        Reading::Whole(template) => (template, None),
+        Reading::Faulty(
+            FaultyReading {
+                template,
+                fault,
+                ..
+            },
+        ) => (template, Some(fault)),
     };
+    Ok(CheckedPolicy {
+        text: own,
+        template,
+        names_itself,
+        fault,
+        verdict: None,
+    })
+}
+
+/// The policy that was read from this text, with the verdict on it, as `check_policy` gives it.
+pub(crate) fn judged<C: ArgumentCheck>(
+    alloc: Global,
+    settings: &Settings<'_, C>,
+    text: &str,
+    reading: Reading,
+) -> Result<CheckedPolicy, AllocError>
+    ensures right { IfOk result
+        (IsRightlySaid (basis_of C.refusal settings.now) settings.now.level) }
+    ensures text { IfOk result (λ policy. string_bytes policy.text ≡ text.now) }
+{
     let own = String::from_str(alloc, text)?;
     let names_itself = reading.names_itself(text);
     match reading {
         Reading::Whole(template) => {
             let verdict = judge(alloc, settings, text, &template)?;
-            Ok(Some(CheckedPolicy {
+            Ok(CheckedPolicy {
                 text: own,
                 template,
                 names_itself,
                 fault: None,
                 verdict: Some(verdict),
-            }))
+            })
         }
         Reading::Faulty(faulty) => {
             let verdict = judge_good_parts(alloc, settings, text, &faulty)?;
@@ -144,13 +180,13 @@ pub fn check_policy<C: ArgumentCheck>(
                 fault,
                 ..
             } = faulty;
-            Ok(Some(CheckedPolicy {
+            Ok(CheckedPolicy {
                 text: own,
                 template,
                 names_itself,
                 fault: Some(fault),
                 verdict: Some(verdict),
-            }))
+            })
         }
     }
 }
@@ -197,7 +233,10 @@ fn may_go_on(text: &str, part: Loc, unfinished: Option<Loc>) -> bool {
 }
 
 /// The place of a finding in the policy's text.
-pub fn place_of(finding: &Finding) -> Loc {
+pub fn place_of(finding: &Finding) -> Loc
+    ensures start { result.start ≡ finding.now.start }
+    ensures end { result.end ≡ finding.now.end }
+{
     Loc {
         start: finding.start,
         end: finding.end,
@@ -205,7 +244,9 @@ pub fn place_of(finding: &Finding) -> Loc {
 }
 
 /// The sum of a text by the method of Fowler, Noll and Vo (FNV-1a).
-fn sum_of(text: &str) -> u64 {
+fn sum_of(text: &str) -> u64
+    ensures { result ≡ sum_of text.now }
+{
     let mut sum = 0xcbf2_9ce4_8422_2325u64;
     for byte in text.as_bytes() {
         sum = (sum ^ u64::from(*byte)).wrapping_mul(0x100_0000_01b3);

@@ -1,6 +1,9 @@
 //! Diagnostics: the faults and findings of a document, as an editor shows them.
-ghost use Rattle.std.specs.Prelude.{◌≡◌, ◌<◌, ◌≤◌, true, length, All, IfOk, OnOk};
-ghost use Rattle.cedar_editor.specs.Checks.{has_shown_error};
+ghost use Rattle.std.specs.Prelude.{◌≡◌, false, [], ◌++◌, length, map, string_bytes, All, IfOk, OnOk};
+ghost use Rattle.std.specs.List.{position_or_len};
+ghost use Rattle.cedar_findings.specs.declared.codes.Code.TheVariants as Code;
+ghost use Rattle.cedar_findings.specs.declared.findings.Severity.TheVariants as Severity;
+ghost use Rattle.cedar_editor.specs.Diagnostics.{ends_line, finding_marks, marks_of, marks_of_policy, marks_of_same_ids, place_in, AreDiagnosticsOf};
 ghost use Rattle.cedar_editor.specs.Documents.{ShowsNoError};
 
 use crate::checks::place_of;
@@ -10,7 +13,8 @@ use cedar_findings::codes::Code;
 use cedar_findings::findings::{Finding, Severity};
 use cedar_types::base::Loc;
 use std::alloc::{AllocError, Global};
-use std::collections::{BTreeMap, HashSet};
+use std::collections::{HashMap, HashSet};
+use std::rc::RcStr;
 
 /// A diagnostic: a message about a place of a document.
 #[derive(Drop)]
@@ -23,12 +27,15 @@ pub struct Diagnostic {
     pub other: Option<Loc>,
 }
 
-/// The diagnostics of a document's policies, in their order, and behind them those of ids that come twice. If there is none, no
-/// error of a policy is shown (clause `silent`). If memory is refused, the answer is an `AllocError`.
+/// The diagnostics of a document's policies, in their order, and behind them those of ids that come twice. Each fault and each
+/// finding is told at its place, and nothing else is told of a policy but that its id comes twice (clause `exact`). If there is
+/// none, no error of a policy is shown (clause `silent`). If memory is refused, the answer is an `AllocError`.
 pub fn policy_diagnostics(
     alloc: Global,
     document: &PolicyDocument,
 ) -> Result<Vec<Diagnostic>, AllocError>
+    ensures exact { IfOk result (λ told.
+        AreDiagnosticsOf document.now.policies.items told.items) }
     ensures silent { IfOk result (λ told. length told.items ≡ 0
         → All ShowsNoError document.now.policies.items) }
 {
@@ -53,15 +60,14 @@ pub fn schema_diagnostics(
     Ok(told)
 }
 
-/// Adds the diagnostics of a policy: at least one if an error of it is shown (clause `shown`).
+/// Adds the diagnostics of a policy: its fault, its errors and its warnings.
 pub fn add_policy(
     alloc: Global,
     placed: &PlacedPolicy,
     told: &mut Vec<Diagnostic>,
 ) -> Result<(), AllocError>
-    ensures shown { OnOk result (has_shown_error placed.now.policy.value ≡ true
-        → length told.old.items < length told.new.items) }
-    ensures kept { OnOk result (length told.old.items ≤ length told.new.items) }
+    ensures { OnOk result (map marks_of told.new.items
+        ≡ map marks_of told.old.items ++ marks_of_policy placed.now) }
 {
     let policy = placed.policy();
     if policy.finding_count() == 0 {
@@ -88,9 +94,8 @@ fn add_findings(
     findings: &[Finding],
     told: &mut Vec<Diagnostic>,
 ) -> Result<(), AllocError>
-    ensures shown { OnOk result (0 < length findings.now
-        → length told.old.items < length told.new.items) }
-    ensures kept { OnOk result (length told.old.items ≤ length told.new.items) }
+    ensures { OnOk result (map marks_of told.new.items ≡ map marks_of told.old.items
+        ++ map (finding_marks placed.now.start severity) findings.now) }
 {
     for finding in findings {
         told.push(of_finding(alloc, placed, severity, finding)?)?;
@@ -104,7 +109,10 @@ pub fn of_finding(
     placed: &PlacedPolicy,
     severity: Severity,
     finding: &Finding,
-) -> Result<Diagnostic, AllocError> {
+) -> Result<Diagnostic, AllocError>
+    ensures { IfOk result (λ told.
+        marks_of told ≡ finding_marks placed.now.start severity finding.now) }
+{
     let mut message = String::from_str(alloc, finding.text.as_str())?;
     if !finding.hint.is_empty() {
         message.push_str("; ")?;
@@ -126,7 +134,9 @@ pub fn of_finding(
 }
 
 /// Whether two policies may have one id, because their ids have one sum.
-fn may_share_ids(alloc: Global, policies: &[PlacedPolicy]) -> Result<bool, AllocError> {
+fn may_share_ids(alloc: Global, policies: &[PlacedPolicy]) -> Result<bool, AllocError>
+    ensures { IfOk result (λ may. may ≡ false → marks_of_same_ids policies.now ≡ []) }
+{
     let mut seen = HashSet::with_capacity(alloc, policies.len())?;
     for (number, placed) in policies.iter().enumerate() {
         if !seen.insert(placed.policy.id_sum(alloc, number)?)? {
@@ -136,35 +146,28 @@ fn may_share_ids(alloc: Global, policies: &[PlacedPolicy]) -> Result<bool, Alloc
     Ok(false)
 }
 
-/// Adds a diagnostic for each policy that has the id of an earlier one.
+/// Adds a diagnostic for each policy that has the id of an earlier one, at its first line. The other place is the first line of
+/// the first policy that has this id.
 fn add_same_ids(
     alloc: Global,
     policies: &[PlacedPolicy],
     told: &mut Vec<Diagnostic>,
 ) -> Result<(), AllocError>
-    ensures { OnOk result (length told.old.items ≤ length told.new.items) }
+    ensures { OnOk result (map marks_of told.new.items
+        ≡ map marks_of told.old.items ++ marks_of_same_ids policies.now) }
 {
     // ids are compared only if two may be alike, because a change comes with each letter that is written
     if !may_share_ids(alloc, policies)? {
         return Ok(());
     }
-    let mut first: BTreeMap<String, Loc> = BTreeMap::new(alloc);
+    let mut lines: HashMap<RcStr, Loc> = HashMap::with_capacity(alloc, policies.len())?;
     for (number, placed) in policies.iter().enumerate() {
         let id = placed.policy.id(alloc, number)?;
-        let place = beginning(placed);
-        match first.get(id.as_str()).copied() {
-            Some(other) => {
-                let message = format!(in alloc; "another policy of this file has the id `{id}`")?;
-                told.push(Diagnostic {
-                    place,
-                    severity: Severity::Error,
-                    code: Code::SameId,
-                    message,
-                    other: Some(other),
-                })?;
-            }
+        let place = first_line(placed);
+        match lines.get(&id).copied() {
+            Some(other) => told.push(same_id(alloc, place, other, id.as_str())?)?,
             None => {
-                first.insert(id, place)?;
+                lines.insert(id, place)?;
             }
         }
     }
@@ -172,15 +175,50 @@ fn add_same_ids(
 }
 
 /// The place of a policy's first line.
-fn beginning(placed: &PlacedPolicy) -> Loc {
-    let line = placed.policy.text.as_str().lines().next().unwrap_or("");
-    Loc {
-        start: placed.start,
-        end: placed.start.saturating_add(line.len()),
-    }
+fn first_line(placed: &PlacedPolicy) -> Loc
+    ensures { result ≡ place_in placed.now.start 0
+        (position_or_len ends_line (string_bytes placed.now.policy.value.text)) }
+{
+    let end = first_end(placed.policy.text.as_str());
+    placed.place(Loc { start: 0, end })
 }
 
-fn plain(alloc: Global, place: Loc, code: Code, text: &str) -> Result<Diagnostic, AllocError> {
+/// The byte at which the first line of a text ends.
+fn first_end(text: &str) -> usize
+    ensures { result ≡ position_or_len ends_line text.now }
+{
+    let bytes = text.as_bytes();
+    let mut end = 0;
+    while end < bytes.len() && !ends_line(bytes[end]) {
+        end += 1;
+    }
+    end
+}
+
+fn ends_line(byte: u8) -> bool
+    ensures { result ≡ ends_line byte }
+{
+    byte == b'\n' || byte == b'\r'
+}
+
+/// The diagnostic that a policy whose first line stands at this place has the id of another one.
+fn same_id(alloc: Global, place: Loc, other: Loc, id: &str) -> Result<Diagnostic, AllocError>
+    ensures { IfOk result (λ told. marks_of told
+        ≡ record { place = place; severity = Severity.Error; code = Code.SameId }) }
+{
+    Ok(Diagnostic {
+        place,
+        severity: Severity::Error,
+        code: Code::SameId,
+        message: format!(in alloc; "another policy of this file has the id `{id}`")?,
+        other: Some(other),
+    })
+}
+
+fn plain(alloc: Global, place: Loc, code: Code, text: &str) -> Result<Diagnostic, AllocError>
+    ensures { IfOk result (λ told.
+        marks_of told ≡ record { place = place; severity = Severity.Error; code = code }) }
+{
     Ok(Diagnostic {
         place,
         severity: Severity::Error,

@@ -1,14 +1,15 @@
 //! Texts of policies while they are written. After a change, only the policies that it touches are read and judged again.
 ghost use Rattle.std.specs.Prelude.{◌≡◌, ◌↔◌, string_bytes, IfOk, IsTrue, OnErr, OnOk};
+ghost use Rattle.cedar_editor.specs.Diagnostics.{place_in};
 ghost use Rattle.cedar_editor.specs.Documents.{AllStandIn, AreRightlySaidBy, EndsBy, KeepThePromise};
 ghost use Rattle.cedar_editor.specs.Edits.{AreEdited, IsChange, IsSpliced};
 ghost use Rattle.cedar_editor.specs.Lines.{line_starts};
 
-use crate::changes::{add_policies, keep_after, keep_before, read_touched};
+use crate::changes::{Touched, add_policies, keep_after, keep_before, read_touched};
 use crate::checks::CheckedPolicy;
 use crate::edits::{Edit, around, difference, edited, joined, only_edit, place_of};
 use crate::lines::{Lines, Position, Range};
-use crate::windows::window_of;
+use crate::windows::{Found, window_of};
 use cedar_types::base::{ArgumentCheck, ExtensionSchemas, Loc};
 use cedar_verdicts::settings::Settings;
 use std::alloc::{AllocError, Global};
@@ -27,6 +28,16 @@ impl<'a, C> Judge<'a, C> {
         match self {
             Judge::Reading(_) => None,
             Judge::Settings(settings) => Some(settings),
+        }
+    }
+}
+
+impl<C: ArgumentCheck> Judge<'_, C> {
+    /// The extension functions that policies may call.
+    pub fn functions(&self) -> &ExtensionSchemas<C> {
+        match self {
+            Judge::Reading(functions) => functions,
+            Judge::Settings(settings) => settings.validator.extensions(),
         }
     }
 }
@@ -62,7 +73,9 @@ impl PlacedPolicy {
     }
 
     /// The place in the document of a place of the policy's text.
-    pub fn place(&self, own: Loc) -> Loc {
+    pub fn place(&self, own: Loc) -> Loc
+        ensures { result ≡ place_in self.now.start own.start own.end }
+    {
         Loc {
             start: self.start.saturating_add(own.start),
             end: self.start.saturating_add(own.end),
@@ -98,7 +111,7 @@ impl PolicyDocument {
         };
         let window = window_of(alloc, text, whole)?;
         let mut policies = Vec::new(alloc);
-        add_policies(alloc, judge, text, &window.places, &[], &mut policies)?;
+        add_policies(alloc, judge, text, window.found, &[], &mut policies)?;
         Ok(PolicyDocument {
             text: String::from_str(alloc, text)?,
             lines: Lines::new(alloc, text)?,
@@ -163,22 +176,16 @@ impl PolicyDocument {
         ensures text { self.new.text ≡ self.old.text }
         ensures kept { OnErr result (self.new.policies ≡ self.old.policies) }
     {
-        let mut places = Vec::with_capacity(alloc, self.policies.len())?;
+        let mut found = Vec::with_capacity(alloc, self.policies.len())?;
         for placed in &self.policies {
-            places.push(Loc {
+            let place = Loc {
                 start: placed.start,
                 end: placed.end(),
-            })?;
+            };
+            found.push(Found { place, read: None })?;
         }
         let mut policies = Vec::new(alloc);
-        add_policies(
-            alloc,
-            judge,
-            self.text.as_str(),
-            &places,
-            &[],
-            &mut policies,
-        )?;
+        add_policies(alloc, judge, self.text.as_str(), found, &[], &mut policies)?;
         self.policies = policies;
         Ok(())
     }
@@ -267,13 +274,19 @@ impl PolicyDocument {
         let new = text.as_str();
         let lines = self.lines.changed(alloc, new, place, inserted)?;
         let old = self.policies.as_slice();
-        let touched = read_touched(alloc, old, self.text.len(), new, place, inserted)?;
-        let places = touched.places.as_slice();
+        let Touched { first, last, found } = read_touched(
+            alloc,
+            old,
+            self.text.len(),
+            new,
+            place,
+            inserted,
+        )?;
         let mut policies = Vec::with_capacity(alloc, old.len())?;
-        keep_before(old, touched.first, &mut policies)?;
-        add_policies(alloc, judge, new, places, old, &mut policies)?;
+        keep_before(old, first, &mut policies)?;
+        add_policies(alloc, judge, new, found, old, &mut policies)?;
         let new_end = place.start.saturating_add(inserted);
-        keep_after(old, touched.last, place.end, new_end, &mut policies)?;
+        keep_after(old, last, place.end, new_end, &mut policies)?;
         *self = PolicyDocument {
             text,
             lines,

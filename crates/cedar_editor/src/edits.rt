@@ -1,5 +1,5 @@
 //! Edits: changes of texts, as an editor sends them.
-ghost use Rattle.std.specs.Prelude.{◌≡◌, ℕ, ◌-◌, ◌≤◌, [], ◌∷◌, ◌++◌, Some, length, take, drop, string_bytes, IfOk, IfSome, MatchOption};
+ghost use Rattle.std.specs.Prelude.{◌≡◌, ℕ, ◌+◌, ◌-◌, ◌≤◌, [], ◌∷◌, ◌++◌, Some, length, take, drop, slice_range, string_bytes, IfOk, IfSome, IsTrue, MatchOption};
 ghost use Rattle.cedar_editor.specs.Edits.{is_edited, AreEdited, IsChange, IsPart, IsSpliced};
 ghost use Rattle.cedar_editor.specs.Lines.{line_starts, IsPositionOf};
 ghost use Rattle.cedar_editor.specs.Units.{IsBoundary};
@@ -115,28 +115,28 @@ pub(crate) fn joined(
 pub(crate) fn difference(old: &str, new: &str) -> (Loc, usize)
     ensures { IsChange old.now result.0 result.1 new.now }
 {
-    let (one, two) = (old.as_bytes(), new.as_bytes());
-    let start = shared_front(one, two);
-    let most = one.len().min(two.len()) - start;
-    let behind = shared_back(one, two, most);
+    let start = shared_front(old, new);
+    let most = old.len().min(new.len()) - start;
+    let behind = shared_back(old, new, most);
     let place = Loc {
         start,
-        end: one.len() - behind,
+        end: old.len() - behind,
     };
-    (place, two.len() - behind - start)
+    (place, new.len() - behind - start)
 }
 
 /// The number of bytes with which both texts begin.
-fn shared_front(one: &[u8], two: &[u8]) -> usize
+fn shared_front(one: &str, two: &str) -> usize
     ensures in_one { result ≤ length one.now }
     ensures in_two { result ≤ length two.now }
     ensures shared { take result one.now ≡ take result two.now }
 {
     let most = one.len().min(two.len());
     let mut at = 0;
-    while BLOCK <= most - at && one[at..at + BLOCK] == two[at..at + BLOCK] {
+    while BLOCK <= most - at && are_alike(one, two, at, at, BLOCK) {
         at += BLOCK;
     }
+    let (one, two) = (one.as_bytes(), two.as_bytes());
     while at < most && one[at] == two[at] {
         at += 1;
     }
@@ -144,7 +144,7 @@ fn shared_front(one: &[u8], two: &[u8]) -> usize
 }
 
 /// The number of bytes with which both texts end, at most so many.
-fn shared_back(one: &[u8], two: &[u8], most: usize) -> usize
+fn shared_back(one: &str, two: &str, most: usize) -> usize
     requires in_one { most ≤ length one.now }
     requires in_two { most ≤ length two.now }
     ensures few { result ≤ most }
@@ -154,13 +154,33 @@ fn shared_back(one: &[u8], two: &[u8], most: usize) -> usize
     let (first, second) = (one.len() - most, two.len() - most);
     let mut left = most;
     while BLOCK <= left
-        && one[first + (left - BLOCK)..first + left]
-            == two[second + (left - BLOCK)..second + left]
+        && are_alike(
+            one,
+            two,
+            first + (left - BLOCK),
+            second + (left - BLOCK),
+            BLOCK,
+        )
     {
         left -= BLOCK;
     }
+    let (one, two) = (one.as_bytes(), two.as_bytes());
     while 0 < left && one[first + left - 1] == two[second + left - 1] {
         left -= 1;
     }
     most - left
+}
+
+/// Whether so many bytes of two texts are alike, from a byte of each on. Parts that begin or end inside of a character are not
+/// compared, and count as different. Texts are compared, because a comparison of slices takes ten times as long.
+fn are_alike(one: &str, two: &str, first: usize, second: usize, size: usize) -> bool
+    requires in_one { first + size ≤ length one.now }
+    requires in_two { second + size ≤ length two.now }
+    ensures { IsTrue result → slice_range one.now first (first + size)
+        ≡ slice_range two.now second (second + size) }
+{
+    match (one.get(first..first + size), two.get(second..second + size)) {
+        (Some(own), Some(other)) => own == other,
+        _ => false,
+    }
 }

@@ -107,12 +107,16 @@ impl Lines {
             → byte < slice_index self.now.starts.items result }
     {
         let starts = self.starts.as_slice();
-        let mut line = starts.len();
-        while line > 0 {
-            if starts[line - 1] <= byte {
-                break;
+        let mut line = 0;
+        let mut last = starts.len();
+        // (the line is one from `line` to `last`)
+        while line < last {
+            let middle = last - (last - line) / 2;
+            if starts[middle - 1] <= byte {
+                line = middle;
+            } else {
+                last = middle - 1;
             }
-            line -= 1;
         }
         line
     }

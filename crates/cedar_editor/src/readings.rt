@@ -1,12 +1,12 @@
 // Readings of a policy's text, as far as it can be read.
 use crate::tokens::token_from;
 use cedar_findings::faults::{TextFault, Written, read_fault};
+use cedar_findings::forbidden_parts::forbidden_part;
 use cedar_reading::{Annotation, FaultyPolicy, ReadError, ReadPolicy, policies_with_faults};
 use cedar_types::base::{
     ActionConstraint, Expr, ExtensionSchemas, Loc, PrincipalConstraint, ResourceConstraint,
     Template,
 };
-use cedar_verdicts::policies::{Policies, Read};
 use std::alloc::{AllocError, Global};
 
 /// The reading of a policy with a fault, as a policy. A part of the scope that was not read constrains nothing, and the
@@ -59,38 +59,51 @@ pub fn read_policy<C>(
     functions: &ExtensionSchemas<C>,
     text: &str,
 ) -> Result<Option<Reading>, AllocError> {
-    let said = match Policies::of_text(alloc, functions, text)? {
-        Ok(mut policies) => policies.give(alloc, functions)?,
-        Err(fault) => Some(Read::Fault(fault)),
-    };
-    let fault = match said {
-        None => return Ok(None),
-        Some(Read::Policy(template, _marks)) => return Ok(Some(Reading::Whole(template))),
-        Some(Read::Fault(fault)) => fault,
-    };
-    let read = match policies_with_faults(alloc, text) {
-        Ok(read) => read,
+    let policies = match policies_with_faults(alloc, text) {
+        Ok(policies) => policies,
         Err(ReadError::Memory(error)) => return Err(error),
+        // the text is too long
         Err(ReadError::At(_, _)) => return Ok(None),
     };
-    match read.into_iter().next() {
+    match policies.into_iter().next() {
+        Some(read) => Ok(Some(reading_of(alloc, functions, text, read)?)),
         None => Ok(None),
-        // the policy was read whole, but one of its parts may not stand there
-        Some(Ok(ReadPolicy { template, .. })) => Ok(Some(Reading::Faulty(FaultyReading {
-            template,
-            names_itself: names_itself(text),
-            fault,
-            unfinished: None,
-        }))),
-        Some(Err(faulty)) => {
-            let reading = reading_of(alloc, text, faulty)?;
-            Ok(Some(Reading::Faulty(reading)))
-        }
     }
 }
 
+/// Whether a policy was read as its text alone would be, although more text stood behind it: unless its fault stands at its end.
+pub fn is_read_alone(text: &str, read: &Result<ReadPolicy, FaultyPolicy>) -> bool {
+    match read {
+        Ok(_) => true,
+        Err(faulty) => faulty.start < text.len(),
+    }
+}
+
+/// The reading of a policy that was read from this text. Calls in it are of Cedar's functions, or of this table.
+pub fn reading_of<C>(
+    alloc: Global,
+    functions: &ExtensionSchemas<C>,
+    text: &str,
+    read: Result<ReadPolicy, FaultyPolicy>,
+) -> Result<Reading, AllocError> {
+    let template = match read {
+        Ok(ReadPolicy { template, .. }) => template,
+        Err(faulty) => return Ok(Reading::Faulty(reading_of_faulty(alloc, text, faulty)?)),
+    };
+    let Some(fault) = forbidden_part(alloc, functions, Some(text), &template)? else {
+        return Ok(Reading::Whole(template));
+    };
+    // the policy was read whole, but one of its parts may not stand there
+    Ok(Reading::Faulty(FaultyReading {
+        template,
+        names_itself: names_itself(text),
+        fault,
+        unfinished: None,
+    }))
+}
+
 /// The reading of a policy with a fault.
-fn reading_of(
+fn reading_of_faulty(
     alloc: Global,
     text: &str,
     faulty: FaultyPolicy,

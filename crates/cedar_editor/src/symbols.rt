@@ -26,8 +26,9 @@ pub fn policy_symbols(alloc: Global, document: &PolicyDocument) -> Result<Vec<Sy
     let mut symbols = Vec::new(alloc);
     for (number, placed) in document.policies().iter().enumerate() {
         let start = placed.start;
+        let id = placed.policy.id(alloc, number)?;
         symbols.push(Symbol {
-            name: placed.policy.id(alloc, number)?,
+            name: String::from_str(alloc, id.as_str())?,
             kind: SymbolKind::Policy,
             whole: Loc {
                 start,

@@ -7,14 +7,14 @@ use Rattle.cedar_editor.proofs.changes.add_policies.Goals as goal
 pub loop-place-preserved : goal.loop-place-preserved
 loop-place-preserved g c = (
   λ known before.
-      let said : is_said_by g.C.ArgumentCheck.refusal c.args.judge.now c.in-Some.policy.value =
-      rw c.in-Some.is at (c.in_ok-policy.ensures.right known) in
+      let said : is_said_by g.C.ArgumentCheck.refusal c.args.judge.now c.in-Some-2.policy.value =
+      rw c.in-Some-2.is at (c.in_ok-policy.ensures.right known) in
       All-same (IsSaidBy g.C.ArgumentCheck.refusal c.args.judge.now) c.push.new.self.items _ c.in_ok-push.ensures.items
       (All-push (IsSaidBy g.C.ArgumentCheck.refusal c.args.judge.now) c.loop-place.policies.items _
       (c.loop-place.invariant.0 known before) said),
   λ before.
-      let own : string_bytes c.in-Some.policy.value.text ≡ c.part_at-own.result.now = rw c.in-Some.is at c.in_ok-policy.ensures.text in
+      let own : string_bytes c.in-Some-2.policy.value.text ≡ c.part_at-own.result.now = rw c.in-Some-2.is at c.in_ok-policy.ensures.text in
       All-same (StandsIn c.args.text.now) c.push.new.self.items _ c.in_ok-push.ensures.items
       (All-push (StandsIn c.args.text.now) c.loop-place.policies.items _ (c.loop-place.invariant.1 before)
-      (stands_of c.args.text.now c.part_at-own.result.now _ c.in-Some.policy.value own c.part_at-own.ensures)),
+      (stands_of c.args.text.now c.part_at-own.result.now _ c.in-Some-2.policy.value own c.part_at-own.ensures)),
 )

@@ -1,28 +1,19 @@
-use Rattle.std.proofs.Common.{◌≡◌, ◌∙◌, ◌≤◌, Bool, true, false, List, All, length, take, refl, subst, arith}
+use Rattle.std.proofs.Common.{◌∙◌, List, ◌++◌, ap, subst}
+use Rattle.std.specs.List.{flat_map}
 use Rattle.std.proofs.lemmas.List.{take_all}
-use Rattle.std.proofs.lemmas.List.Elements.{All-more}
+use Rattle.cedar_editor.specs.Diagnostics.{marks_of_policy, marks_of_same_ids, AreDiagnosticsOf, Marks}
+use Rattle.cedar_editor.specs.declared.diagnostics.Diagnostic.{Diagnostic}
 use Rattle.cedar_editor.specs.declared.documents.PlacedPolicy.{PlacedPolicy}
-use Rattle.cedar_editor.specs.Checks.{has_shown_error}
-use Rattle.cedar_editor.specs.Documents.{ShowsNoError}
+use Rattle.cedar_editor.proofs.Told.{silent}
 use Rattle.cedar_editor.proofs.diagnostics.policy_diagnostics.Goals as goal
 
-is_false : (b : Bool) → (b ≡ true → ⊥) → b ≡ false
-is_false false h = refl
-is_false true h = absurd (h refl)
-
-pub loop-placed-preserved : goal.loop-placed-preserved
-loop-placed-preserved c = λ none.
-    let kept : length c.loop-placed.told.items ≤ length c.add_policy.new.told.items = c.in_ok-add_policy.ensures.kept in
-    let shown : has_shown_error c.placed-item.result.policy.value ≡ false =
-    is_false (has_shown_error c.placed-item.result.policy.value)
-    (λ is. absurd (omega (arith, c.in_ok-add_policy.ensures.shown is))) in
-    All-more ShowsNoError c.policies-policies.result.now c.loop-placed.placed-index c.placed-item.result c.loop-placed-test.true
-    (c.loop-placed.invariant (omega arith)) (subst (λ (p : PlacedPolicy). ShowsNoError p) c.placed-item.is shown)
-
-pub returns : goal.returns
-returns c = record {
-  silent = λ none.
-      subst (λ (ps : List PlacedPolicy). All ShowsNoError ps)
-      (take_all c.loop-placed.placed-index c.policies-policies.result.now c.loop-placed-test.false ∙ c.policies-policies.ensures)
-      (c.loop-placed.invariant (omega (arith, c.in_ok-add_same_ids.ensures)));
-}
+pub returns-clause-silent : goal.returns-clause-silent
+returns-clause-silent c = λ none.
+    let ps : List PlacedPolicy = c.policies-policies.result.now in
+    let told : List Diagnostic = c.add_same_ids.new.told.items in
+    let exact : AreDiagnosticsOf ps told =
+    c.in_ok-add_same_ids.ensures
+    ∙ ap (λ (m : List Marks). m ++ marks_of_same_ids ps)
+    (c.loop-placed.invariant ∙ ap (flat_map marks_of_policy) (take_all c.loop-placed.placed-index ps c.loop-placed-test.false)) in
+    silent c.args.document.now.policies.items told
+    (subst (λ (qs : List PlacedPolicy). AreDiagnosticsOf qs told) c.policies-policies.ensures exact) none

@@ -1,6 +1,6 @@
 use Rattle.std.proofs.Common.{◌≡◌, ◌∙◌, ℕ, List, [], ◌∷◌, Option, Some, codes, refl, subst, arith}
 use Rattle.cedar_editor.specs.Edits.{is_edited}
-use Rattle.cedar_editor.specs.EditExamples.{in_line, EditExamples, Puts}
+use Rattle.cedar_editor.specs.EditExamples.{in_line, Puts}
 use Rattle.cedar_editor.specs.Lines.{line_starts, IsPositionOf}
 use Rattle.cedar_editor.specs.Units.{IsBoundary}
 use Rattle.cedar_editor.specs.declared.edits.Edit.{Edit}

@@ -29,16 +29,16 @@ invariant_of-drop-clause-policies_in_text g c =
     let none : AllStandIn text c.in_ok-policies.policies.items = All-same (StandsIn text) _ _ c.in_ok-policies.ensures.items (All-nil (StandsIn text)) in
     let before : AllStandIn text c.keep_before.new.policies.items =
     kept_all P placed_policy _ _ _ c.in_ok-keep_before.ensures none
-    (all_stand_before old text place c.args.inserted change (take c.in_ok-touched.touched.first ps) c.in_ok-touched.ensures.before
-    (All-take (StandsIn old) c.in_ok-touched.touched.first ps stand)) in
+    (all_stand_before old text place c.args.inserted change (take c.in_ok-first.field-0.first ps) c.in_ok-first.ensures.before
+    (All-take (StandsIn old) c.in_ok-first.field-0.first ps stand)) in
     let added : AllStandIn text c.add_policies.new.policies.items =
     subst (λ (t : List ℕ). AllStandIn t c.add_policies.new.policies.items) c.as_str-new.ensures.value
     (c.in_ok-add_policies.ensures.placed
     (subst (λ (t : List ℕ). AllStandIn t c.keep_before.new.policies.items) (sym c.as_str-new.ensures.value) before)) in
     kept_all P (moved_policy place.end c.saturating_add-new_end.result) _ _ _ c.in_ok-keep_after.ensures added
     (all_stand_behind old text place c.args.inserted c.saturating_add-new_end.result change bound c.saturating_add-new_end.ensures
-    (drop c.in_ok-touched.touched.last ps) c.in_ok-touched.ensures.behind
-    (All-drop (StandsIn old) c.in_ok-touched.touched.last ps stand))
+    (drop c.in_ok-first.field-0.last ps) c.in_ok-first.ensures.behind
+    (All-drop (StandsIn old) c.in_ok-first.field-0.last ps stand))
 
 pub returns-clause-right : goal.returns-clause-right
 returns-clause-right g c = λ right.
@@ -48,6 +48,6 @@ returns-clause-right g c = λ right.
     let none : All Q c.in_ok-policies.policies.items = All-same Q _ _ c.in_ok-policies.ensures.items (All-nil Q) in
     let before : All Q c.keep_before.new.policies.items =
     kept_all P placed_policy _ _ _ c.in_ok-keep_before.ensures none
-    (All-take Q c.in_ok-touched.touched.first c.as_slice-old.result.now old) in
+    (All-take Q c.in_ok-first.field-0.first c.as_slice-old.result.now old) in
     kept_all P (moved_policy c.args.place.end c.saturating_add-new_end.result) _ _ _ c.in_ok-keep_after.ensures
-    (c.in_ok-add_policies.ensures.right old before) (All-drop Q c.in_ok-touched.touched.last c.as_slice-old.result.now old)
+    (c.in_ok-add_policies.ensures.right old before) (All-drop Q c.in_ok-first.field-0.last c.as_slice-old.result.now old)
