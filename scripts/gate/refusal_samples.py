@@ -114,11 +114,20 @@ def answer(output, by_values=False):
         return STILL_PROVED
 
 
-def answers_that_broke(output):
+def broken_by(output):
+    """Why a check came to no meaning, where it came to none."""
     try:
         return refusals.refusal(ONLY, output, ONLY)
     except refusals.NotTried as broken:
-        return broken.answers
+        return broken
+
+
+def answers_that_broke(output):
+    return broken_by(output).answers
+
+
+def is_at_limit(output):
+    return broken_by(output).is_at_limit
 
 
 def outcomes():
@@ -132,6 +141,10 @@ def outcomes():
     yield "the answers that broke", answers_that_broke(GONE) == [("proofs/rounds/f/Answers.antt", "returns")]
     invariant = by_hand("`l` has no field `x`", "invariant-loop-x", "proofs/rounds/f/Invariants.antt:4:9")
     yield "an invariant is not taken out", answers_that_broke(invariant) == []
+    gave_up = by_search("; `search` gave up at one of its limits")
+    yield "a limit of the search is its own answer", is_at_limit(gave_up)
+    yield "a proof that broke beside it is tried without", not is_at_limit(f"{GONE}\n{gave_up}")
+    yield "a proof by hand at a limit is tried without", not is_at_limit(by_hand("the declaration went over this check's step limit"))
     bodies, _ = edits.read_bodies(edits.chosen(["bodies/"]))
     for crate in sorted({it.crate for it in bodies}):
         yield f"{crate} has a right body", bool(edits.controls_of(crate))

@@ -33,11 +33,14 @@ class StillProved(Fault):
 
 
 class NotTried(Fault):
-    """Why a check came to no meaning, with the goals whose proofs by hand broke: a file, and a goal."""
+    """
+    Why a check came to no meaning: the goals whose proofs by hand broke, each a file and a goal, or a limit of the search, to which
+    a check alone comes too.
+    """
 
-    def __init__(self, why, answers=()):
+    def __init__(self, why, answers=(), is_at_limit=False):
         super().__init__(f"not tried: {why}")
-        self.answers = list(answers)
+        self.answers, self.is_at_limit = list(answers), is_at_limit
 
 
 def is_proved(output):
@@ -122,8 +125,9 @@ def refusal(only, output, asked, by_values=False):
         return f"refused at {' '.join(dict.fromkeys(goals))} of {' '.join(only)}"
     if others:
         raise NotTried(f"other functions are refused too: {' '.join(dict.fromkeys(others))}")
-    answers = [(it.file, it.goal) for it in own if it.word == BROKEN and it.goal and f"{it.file}".endswith("/Answers.antt")]
-    raise NotTried(why_not(own, output, only), answers)
+    broken = [it for it in own if it.word == BROKEN]
+    answers = [(it.file, it.goal) for it in broken if it.goal and f"{it.file}".endswith("/Answers.antt")]
+    raise NotTried(why_not(own, output, only), answers, bool(broken) and all(it.file is None for it in broken))
 
 
 def without_answers(text, goals):
