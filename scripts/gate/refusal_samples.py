@@ -1,13 +1,15 @@
 #!/usr/bin/env python3
-"""The self-test of refusals.py: outputs of checks, and whether each refuses a body by its meaning.
+"""The self-test of refusals.py and answers.py: outputs of checks, whether each refuses a body by its meaning, and answers that are
+kept.
 
 No prover is asked. The last line counts the samples that went as they should.
 """
 import sys
+import tempfile
 from pathlib import Path
 
 sys.path.insert(0, str(Path(__file__).resolve().parent.parent))
-from gate import edits, refusals  # noqa: E402
+from gate import answers, edits, refusals  # noqa: E402
 
 ONLY = ["rounds::f"]
 REFUSED, NOT_TRIED, STILL_PROVED = "refused", "not tried", "still proved"
@@ -130,8 +132,24 @@ def is_at_limit(output):
     return broken_by(output).is_at_limit
 
 
+def kept_answers():
+    """Samples of answers that are kept in a file of their own, and whether each went as it should."""
+    edit, other = sorted(edits.chosen(["bodies/"]).items())[:2]
+    with tempfile.TemporaryDirectory() as room:
+        answers.FILE = Path(room, "answers.tsv")
+        yield "an edit without an answer is left", answers.left(dict([edit, other])) == dict([edit, other])
+        answers.keep({edit[0]: "refused at returns of rounds::f", other[0]: NOT_TRIED})
+        yield "an edit with an answer is not left", answers.left(dict([edit, other])) == {}
+        answers.keep({other[0]: None})
+        yield "an answer is taken away", answers.left(dict([edit, other])) == dict([other])
+        text = answers.FILE.read_text(encoding="utf8")
+        answers.FILE.write_text(text.replace(answers.sum_of(edit[0]), "0" * 16), encoding="utf8")
+        yield "an answer for other texts counts for nothing", answers.left(dict([edit])) == dict([edit])
+
+
 def outcomes():
     """Each sample, and whether it went as it should."""
+    yield from kept_answers()
     for name, output, wanted in SAMPLES:
         yield f"{name}: {answer(output)}", answer(output) == wanted
     for name, output, wanted in BY_VALUES:
