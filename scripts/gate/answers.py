@@ -1,7 +1,8 @@
 """The answers that wrong bodies and wrong rules got, which scripts/mutations keeps in mutations/answers.tsv.
 
-A row has an edit, the answer, and a sum of all that the answer depends on: the edit, the texts of its crate, the code and the
-definitions of the crates below it, and the kit. While the sum is that of the texts as they are, the edit needs no further try.
+A row has an edit, the answer, and a sum of all that the answer depends on: the edit with the proof and the sample world beside it,
+the texts of its crate and of the crates below, whose proofs it may cite, and the kit. While the sum is that of the texts as they
+are, the edit needs no further try. The judge, refusals.py, is no part of the sum: if you make it stricter, remove the file.
 """
 import fcntl
 import hashlib
@@ -22,7 +23,7 @@ MOST = 160
 def sum_of_texts(crate):
     found = hashlib.sha256((unproved.kit() / "KIT-ID").read_bytes())
     for name in [*unproved.below([crate]), crate]:
-        for part in ("src", "specs", "proofs") if name == crate else ("src", "specs"):
+        for part in ("src", "specs", "proofs"):
             for path in sorted((unproved.TOP / "crates" / name / part).rglob("*")):
                 found.update(repr((str(path.relative_to(unproved.TOP)), path.read_bytes() if path.is_file() else b"")).encode())
     return found.digest()
@@ -32,7 +33,8 @@ def sum_of(name):
     """A sum of all that the answer to an edit depends on."""
     kind, crate, last = name.split("/")
     found = hashlib.sha256(sum_of_texts("cedar_check" if kind == "rows" else crate))
-    for path in sorted((MUTATIONS / kind / crate).glob(f"{last}.*")):
+    folder = MUTATIONS / kind / crate
+    for path in sorted([*folder.glob(f"{last}.*"), *folder.glob("sample.txt")]):
         found.update(path.read_bytes())
     return found.hexdigest()[:16]
 
