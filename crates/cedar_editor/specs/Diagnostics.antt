@@ -20,7 +20,7 @@ pub record Marks : Type 0 where
 abbrev pub marks_of : Diagnostic → Marks
 marks_of d = record { place = d.place; severity = d.severity; code = d.code }
 
--- a place of the text of a policy that begins at a byte of a document, in the document; no place is beyond 2^64
+-- a place of the text of a policy that begins at a byte of a document, in the document; no place is beyond 2^64 - 1
 abbrev pub place_in : ℕ → ℕ → ℕ → Loc
 place_in begin start end = record { start = min (begin + start) 18446744073709551615; end = min (begin + end) 18446744073709551615 }
 

@@ -1,5 +1,5 @@
 -- Meanings of the bytes between quotes, part by part.
-use Rattle.std.proofs.Common.{◌≡◌, ◌∙◌, ℕ, ◌+◌, ◌-◌, ◌<◌, ◌≤◌, List, [], ◌∷◌, ◌++◌, length, sym, ap, subst, append_assoc, append-nil, zero, suc, arith}
+use Rattle.std.proofs.Common.{◌≡◌, ◌∙◌, ℕ, ◌+◌, ◌<◌, ◌≤◌, List, [], ◌∷◌, ◌++◌, length, sym, ap, subst, append_assoc, append-nil, zero, suc, arith}
 use Rattle.std.specs.Prelude.{slice_range, slice_index}
 use Rattle.cedar_json.specs.Texts.{IsPlain, ArePlain, Unescapes, nothing, plain, escape, AddsEscape}
 use Rattle.cedar_json.proofs.Ranges.{joined, first, empty}

@@ -2,6 +2,7 @@ pub mod Cursors
 pub mod Fits
 pub mod Keys
 pub mod Numbers
+pub mod ReadItems
 pub mod Says
 pub mod TextExamples
 pub mod Texts

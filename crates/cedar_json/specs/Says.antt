@@ -1,6 +1,6 @@
 -- Says: the tree that a text of JSON says, place by place. A bracket is 91 and 93, a brace 123 and
 -- 125, a comma 44, a colon 58.
-use Rattle.std.specs.Prelude.{◌≡◌, ◌≢◌, ℕ, ◌+◌, ◌-◌, ◌<◌, ◌≤◌, Bool, true, false, ◌||◌, ◌==◌, List, length, slice_index, slice_range, codes, ⊤}
+use Rattle.std.specs.Prelude.{◌≡◌, ◌≢◌, ℕ, ◌+◌, ◌<◌, ◌≤◌, Bool, true, false, ◌||◌, ◌==◌, List, length, slice_index, slice_range, codes, ⊤}
 use Rattle.std.specs.Str.Parse.{true_text, false_text}
 use Rattle.cedar_json.specs.Numbers.{SaysInteger, IsDecimal}
 use Rattle.cedar_json.specs.Texts.{HasByte, Quotes}

@@ -20,7 +20,7 @@ mod translations;
 mod values;
 mod whole;
 
-pub use examples::examples_of_texts;
+pub use examples::{examples_of_texts, items_make_the_array};
 pub use faults::{Fault, ReadError};
 pub use forms::{FormError, FormFault, Object, PlacedFault, expected, items_of, text_of};
 pub use parts::{Items, value_at};

@@ -1,8 +1,10 @@
 // Parts of a text that are read one by one, so that the caller can drop each before it reads the
 // next.
-ghost use Rattle.std.specs.Prelude.{◌≡◌, length, IfOk, IfErr, IfSome, OnOk};
+ghost use Rattle.std.specs.Prelude.{◌≡◌, ◌≤◌, ℕ, true, false, length, IfOk, IfErr, IfSome, IfNone, OnOk};
 ghost use Rattle.cedar_json.specs.Cursors.{GoesOn, IsFaultWithin};
 ghost use Rattle.cedar_json.specs.Fits.{FitsIn};
+ghost use Rattle.cedar_json.specs.ReadItems.{BeginsArray, ItemReads, Opens};
+ghost use Rattle.cedar_json.specs.Says.{Blanks, Stands};
 ghost use Rattle.cedar_json.specs.View.{tree_of};
 
 use crate::cursor::Cursor;
@@ -27,6 +29,8 @@ impl<'a> Items<'a> {
     /// than an array.
     pub fn new(alloc: Global, text: &'a str) -> Result<Option<Items<'a>>, ReadError>
         ensures ok { IfOk result (λ o. IfSome o (λ i. i.cursor.text.now ≡ text.now)) }
+        ensures opens { IfOk result (λ o. IfSome o (λ i. Opens text.now i.cursor.at i.is_ended)) }
+        ensures none { IfOk result (λ o. IfNone o (BeginsArray text.now → ⊥)) }
         ensures err { IfErr result (λ e. IsFaultWithin (length text.now) e) }
     {
         let mut cursor = Cursor::new(alloc, text)?;
@@ -44,6 +48,12 @@ impl<'a> Items<'a> {
         ensures on { OnOk result (GoesOn self.old.cursor self.new.cursor) }
         ensures ok { IfOk result (λ o. IfSome o (λ v.
             FitsIn ITEM_DEPTH self.old.cursor.at self.new.cursor.at (tree_of v))) }
+        ensures reads { IfOk result (λ o. IfSome o (λ v. (self.old.is_ended ≡ false)
+            × ItemReads self.old.cursor.text.now self.old.cursor.at self.new.cursor.at
+            self.new.is_ended (tree_of v))) }
+        ensures last { IfOk result (λ o. IfNone o ((self.old.is_ended ≡ true)
+            × Blanks self.old.cursor.text.now self.old.cursor.at
+            (length self.old.cursor.text.now))) }
         ensures err { IfErr result (λ e. IsFaultWithin (length self.old.cursor.text.now) e) }
     {
         if self.is_ended {
@@ -59,6 +69,8 @@ impl<'a> Items<'a> {
 /// Reads blanks up to the end of a text. Any other byte is a fault.
 pub fn end(cursor: &mut Cursor<'_>) -> Result<(), ReadError>
     ensures on { OnOk result (GoesOn cursor.old cursor.new) }
+    ensures blanks { OnOk result
+        (Blanks cursor.old.text.now cursor.old.at (length cursor.old.text.now)) }
     ensures err { IfErr result (λ e. IsFaultWithin (length cursor.old.text.now) e) }
 {
     cursor.pass_blanks();
@@ -72,6 +84,8 @@ pub fn end(cursor: &mut Cursor<'_>) -> Result<(), ReadError>
 /// inside each other. The reader ignores the text before and behind the value.
 pub fn value_at(alloc: Global, text: &str, start: usize, left: usize) -> Result<Value, ReadError>
     ensures ok { IfOk result (λ v. FitsIn left 0 (length text.now) (tree_of v)) }
+    ensures says { start ≤ length text.now
+        → IfOk result (λ v. (stop : ℕ) × Stands text.now start stop (tree_of v)) }
     ensures err { IfErr result (λ e. IsFaultWithin (length text.now) e) }
 {
     let at = start.min(text.len());

@@ -1,5 +1,5 @@
 // Steps of a cursor through its text.
-ghost use Rattle.std.specs.Prelude.{◌≡◌, ◌+◌, ◌<◌, ◌≤◌, length, slice_get, false, IsTrue, IfSome, IfNone, IfErr, IfOk, OnOk};
+ghost use Rattle.std.specs.Prelude.{◌≡◌, ◌+◌, ◌<◌, ◌≤◌, length, slice_get, slice_index, false, IsTrue, IfSome, IfNone, IfErr, IfOk, OnOk};
 ghost use Rattle.cedar_json.specs.Cursors.{GoesOn, IsFaultWithin};
 ghost use Rattle.cedar_json.specs.Says.{Blanks, is_blank};
 ghost use Rattle.cedar_json.specs.Texts.{HasByte};
@@ -55,6 +55,8 @@ impl<'a> Cursor<'a> {
     pub fn pass_blanks(&mut self)
         ensures on { GoesOn self.old self.new }
         ensures blanks { Blanks self.old.text.now self.old.at self.new.at }
+        ensures stops { self.new.at < length self.old.text.now
+            → is_blank (slice_index self.old.text.now self.new.at) ≡ false }
     {
         self.at = behind_blanks(self.text.as_bytes(), self.at);
     }
@@ -112,6 +114,8 @@ fn behind_blanks(bytes: &[u8], start: usize) -> usize
     requires { start ≤ length bytes.now }
     ensures within { result ≤ length bytes.now }
     ensures blanks { Blanks bytes.now start result }
+    ensures stops { result < length bytes.now
+        → is_blank (slice_index bytes.now result) ≡ false }
 {
     let mut at = start;
     'blanks: while at < bytes.len() && is_blank(bytes[at]) {
