@@ -1,15 +1,17 @@
 #!/usr/bin/env python3
-"""The self-test of refusals.py and answers.py: outputs of checks, whether each refuses a body by its meaning, and answers that are
-kept.
+"""The self-test of refusals.py, body_tries.py and answers.py: outputs of checks, whether each refuses a body by its meaning, which
+checks several bodies get, and answers that are kept.
 
 No prover is asked. The last line counts the samples that went as they should.
 """
 import sys
 import tempfile
+from contextlib import redirect_stdout
+from io import StringIO
 from pathlib import Path
 
 sys.path.insert(0, str(Path(__file__).resolve().parent.parent))
-from gate import answers, edits, refusals  # noqa: E402
+from gate import answers, body_tries, edits, refusals  # noqa: E402
 
 ONLY = ["rounds::f"]
 REFUSED, NOT_TRIED, STILL_PROVED = "refused", "not tried", "still proved"
@@ -132,6 +134,51 @@ def is_at_limit(output):
     return broken_by(output).is_at_limit
 
 
+class Prover:
+    """A prover that says of each function of `cedar_json` one text, and of each check without its proof by hand another."""
+
+    def __init__(self, goal, without):
+        self.goal, self.without, self.asked = goal, without, []
+
+    def said_of(self, path, texts):
+        if path == "texts::is_plain":
+            return f"fn cedar_json::{path}: proved\n"
+        by_hand = "proofs/" + path.replace("::", "/") + "/Answers.antt"
+        return (self.without if by_hand in texts else self.goal.format(file=by_hand)) + f"\nfn cedar_json::{path}: not proved\n"
+
+    def __call__(self, crate, only, texts):
+        self.asked.append(sorted(only))
+        return "".join(self.said_of(path, texts) for path in only) + f"only={len(only)} proved=0\n"
+
+
+def body(name):
+    return edits.body_of(name, edits.MUTATIONS / f"{name}.edit")
+
+
+def tries(prover, names):
+    """How the tries of these bodies of `cedar_json` went by a prover, and of the right body beside them, and which checks they got."""
+    with redirect_stdout(StringIO()):
+        found = body_tries.BodyTries(prover)([body(f"bodies/cedar_json/{name}") for name in names])
+    return [it.is_well for it in found], prover.asked
+
+
+def checks_of_several():
+    """Samples of bodies that share checks, and whether each went as it should."""
+    unit, meant, plain = "escapes::unit", "escapes::meant", "texts::is_plain"
+    names, both = ["digits_are_swapped", "a_line_feed_is_a_letter"], sorted([unit, meant])
+    is_open = by_search().replace(ENDS, "")
+    yield "a check is shared with a right body", tries(Prover(is_open, ""), names) == ([True] * 3, [sorted([plain, *both])])
+    broken = "{file}:5:13: error: `returns`: this has type `A`, and `B` is expected"
+    shown = by_search(f"; {FALSE}").replace(ENDS, "")
+    yield "proofs that broke share a check without them", tries(Prover(broken, shown), names) == ([True] * 3, [sorted([plain, *both]), both])
+    yield "no values, no meaning", tries(Prover(broken, is_open), names)[0] == [True, None, None]
+    limit = by_search("; `search` gave up at one of its limits").replace(ENDS, "")
+    yield "a limit is not tried again", tries(Prover(limit, ""), names) == ([True, None, None], [sorted([plain, *both])])
+    names = [*names, "a_control_character_is_plain"]
+    alone = [[plain], [plain]]
+    yield "a right body that fits no batch is checked alone", tries(Prover(is_open, ""), names)[1] == [sorted([plain, *both]), *alone]
+
+
 def kept_answers():
     """Samples of answers that are kept in a file of their own, and whether each went as it should."""
     edit, other = sorted(edits.chosen(["bodies/"]).items())[:2]
@@ -150,6 +197,7 @@ def kept_answers():
 def outcomes():
     """Each sample, and whether it went as it should."""
     yield from kept_answers()
+    yield from checks_of_several()
     for name, output, wanted in SAMPLES:
         yield f"{name}: {answer(output)}", answer(output) == wanted
     for name, output, wanted in BY_VALUES:
