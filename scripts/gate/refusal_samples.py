@@ -31,6 +31,12 @@ def by_search(why="", goal="returns", what=IT_IS_NOT):
     return f"note: src/rounds.rt:7:1: {what} (`{goal}`){why}{ENDS}"
 
 
+def in_cycle(*functions):
+    """Proofs by hand that broke in a file that several functions share, because they call one another."""
+    at = "proofs/rounds/+cycle/Answers.antt:9:3"
+    return "".join(f"{at}: error: `{it}-returns`: this has type `A`, and `B` is expected\nfn cedar_host::rounds::{it}: not proved\n" for it in functions)
+
+
 OPEN = by_search()
 GONE = by_hand("record `Rattle.cedar_host.proofs.rounds.f.Lts.Start` has no field `in-None`\n  the fields that can be named here are `args`")
 # That one function is refused, and that another's proof broke, in a check of both.
@@ -49,7 +55,10 @@ SAMPLES = [
     ("values beside a proof that broke", GONE.replace(ENDS, "") + "\n" + by_search(f"; {FALSE}", "returns-in-Some"), REFUSED),
     ("a goal of a function in a cycle", by_search(goal="f-returns").replace(ENDS, "\nfn cedar_host::rounds::f: not proved\n" + OTHER), REFUSED),
     ("beside another body that is refused", OPEN.replace("only=1 proved=0\n", "") + by_search().replace("rounds::f:", "rounds::g:"), REFUSED),
+    ("beside the proof of another body that broke one of its cycle", in_cycle("g", "h") + OPEN, REFUSED),
     # breakage
+    ("a body that broke a proof of its own cycle", in_cycle("f", "h") + OPEN, NOT_TRIED),
+    ("beside a proof of a cycle that no body is in", in_cycle("h") + OPEN, NOT_TRIED),
     ("a type that does not fit", by_hand("this has type `A`, and `B` is expected"), NOT_TRIED),
     ("types that differ", by_hand("as printed, the two types differ only where one has `g n` (expected)\n  but this has type `f n ≡ f n`"), NOT_TRIED),
     ("a constructor that is gone", by_hand("data type `Branch` has no constructor `in-None` and no derived definition"), NOT_TRIED),

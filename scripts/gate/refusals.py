@@ -96,6 +96,16 @@ def all_said(output):
         yield Said(function_of(file, goal, names), goal, word_of(text, BROKEN), file, text)
 
 
+def is_of_another_body(it, said, only, asked):
+    """
+    Whether a goal of a function that no body turns broke by another body than this one: functions that call one another share a
+    file of proofs, and in this file a proof of another body's function broke, and none of this one's.
+    """
+    sharing = [other.function for other in said if it.file and other.file == it.file]
+    others = [function for function in sharing if is_one_of(function, asked)]
+    return bool(others) and not any(is_one_of(function, only) for function in others)
+
+
 def why_not(own, output, only):
     """Why no meaning was tried, by what is said of these functions."""
     broken = [it for it in own if it.word == BROKEN]
@@ -109,13 +119,14 @@ def why_not(own, output, only):
 
 def refusal(only, output, asked, by_values=False):
     """
-    The goals by which a check refuses the body of these functions, where it refuses no other than those that it was asked about:
-    any, or those alone that fail at some values.
+    The goals by which a check refuses the body of these functions, where it refuses no other than those that it was asked about,
+    but by another body: any, or those alone that fail at some values.
     """
     if is_proved(output) or all_proved(only, output):
         raise StillProved("NOT REFUSED: it is still proved")
     said = list(all_said(output))
-    others = [it.file or it.function for it in said if not is_one_of(it.function, asked)]
+    beside = [it for it in said if not is_one_of(it.function, asked)]
+    others = [it.file or it.function for it in beside if not is_of_another_body(it, said, only, asked)]
     own = [it for it in said if is_one_of(it.function, only)]
     of_clauses = [it for it in own if OF_CLAUSE.search(it.goal)]
     goals = [it.goal for it in of_clauses if it.word == SHOWN]
