@@ -1,9 +1,10 @@
-//! Trees, data and findings that texts have, or the faults and their places. The tests stand apart,
+//! Trees, data and findings that texts have, or the faults and their places; and a law of arrays in JSON. The tests stand apart,
 //! because a crate with tests is proved twice.
 #![tactic(auto)]
 
 #[cfg(test)]
 mod data_tests;
+pub mod examples;
 #[cfg(test)]
 mod findings_tests;
 #[cfg(test)]
