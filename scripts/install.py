@@ -56,7 +56,7 @@ def folder_of(words):
 def minutes_of(crates, rows):
     """The newest row that has the minutes of all these crates, and their sum; None where there is no such row."""
     for row in reversed(rows):
-        times = [row["crates"].get(crate, [None])[:2] for crate in crates]
+        times = [row["proofs"].get(crate, [None])[:2] for crate in crates]
         if all(None not in it for it in times):
             return row, round(sum(proved - begun for begun, proved in times))
     return None
@@ -92,7 +92,7 @@ def install_library(words):
         say(f"one folder is wanted\n{USAGE.rstrip()}")
         return WRONG
     crates = [*unproved.below([library.CRATE]), library.CRATE]
-    say(f"proving {len(crates)} crates, one after another: {' '.join(crates)}")
+    say(f"proving {len(crates)} crates: {' '.join(crates)}")
     say(forecast(minutes_of(crates, gate_line.rows_of(gate_line.TABLE.read_text()))))
     library.build(Path(words[0]), library.with_proof)
     print(f"installed the library in {words[0]}, which is proved")
@@ -112,7 +112,7 @@ def main(words):
         return WRONG
     if proved.program() is None:
         crates = proved.needed()
-        say(f"proving {len(crates)} crates, one after another: {' '.join(crates)}")
+        say(f"proving {len(crates)} crates: {' '.join(crates)}")
         say(forecast(minutes_of(crates, gate_line.rows_of(gate_line.TABLE.read_text()))))
         if not proved.prove():
             say("the program was not built, as said above; nothing was installed")

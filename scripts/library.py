@@ -5,9 +5,8 @@ It puts into DIR what a program in another language links: lib/libcedar.a, lib/l
 it, where N is the number that cedar_abi() answers, include/cedar.h and lib/pkgconfig/cedar.pc. The kit's heap functions stand
 inside, and no name but those of cedar.h is seen from outside, so that two libraries in Rattle do not meet in one program.
 
-With --proved it proves crates/cedar_c and what that stands on, by `rt lib`, and takes the library that this builds. With
---gate, after a run of scripts/prove, it proves crates/cedar_c alone, over the libraries that `rt ci` has proved of the very
-texts. Else the library is built without a proof, and is kept in out/unproved (scripts/unproved.py); nothing is promised of
+With --proved it proves what crates/cedar_c stands on, in a copy, and then crates/cedar_c. With --gate, after a run of
+scripts/prove, it proves crates/cedar_c alone, over the libraries that the gate's copy has. Else the library is built without a proof, and is kept in out/unproved (scripts/unproved.py); nothing is promised of
 it. It needs a compiler of C and binutils: cc, ld, objcopy and ar.
 """
 import re
@@ -24,8 +23,8 @@ import unproved
 TOP = Path(__file__).resolve().parent.parent
 CRATE = "cedar_c"
 HEADER = TOP / "bindings" / "cedar.h"
-# What `rt lib` builds.
-BUILT = TOP / "crates" / CRATE / "out" / f"lib{CRATE}.a"
+# What scripts/prove proves.
+GATE = TOP / "out" / "gate"
 TOOLS = ("cc", "ld", "objcopy", "ar")
 CALLS = ("cedar_abi", "cedar_validate", "cedar_check_data", "cedar_typed_conditions")
 # A program that makes each call, so that the compiler keeps it.
@@ -122,37 +121,43 @@ def without_proof():
 
 def with_proof():
     """The archive of the calls, once they and all that they stand on are proved."""
-    return archive_by(["rt", "lib"])
+    if not proved.prove_copy([*unproved.below([CRATE]), CRATE], proved.COPY):
+        raise NotBuilt("the library was not proved, as said above")
+    return over(proved.COPY)
 
 
 def over_gate():
-    """The archive of the calls, once they are proved over the libraries that `rt ci` has left below crates/*/out.
+    """The archive of the calls, once they are proved over the libraries of the gate."""
+    return over(GATE)
+
+
+def over(copy):
+    """The archive of the calls, once they are proved over the libraries that `rt ci` has left in a copy.
 
     `rt lib` takes none of these libraries, because the kit gives them no stamp: it would prove each of them a second time."""
-    return archive_by([unproved.kit() / "bin" / "rattle", "build", *words_of_kit()])
-
-
-def archive_by(words):
-    """The archive of the calls that this command builds."""
-    BUILT.parent.mkdir(parents=True, exist_ok=True)
-    BUILT.unlink(missing_ok=True)
-    if proved.run([str(it) for it in words], CRATE) != 0 or not BUILT.is_file():
+    if not (copy / "crates.txt").is_file():
+        raise NotBuilt(f"{copy} has no proved copy: run scripts/prove first")
+    built = copy / "crates" / CRATE / "out" / f"lib{CRATE}.a"
+    built.parent.mkdir(parents=True, exist_ok=True)
+    built.unlink(missing_ok=True)
+    words = [unproved.kit() / "bin" / "rattle", "build", *words_of_kit(copy), "-o", built]
+    if proved.run([str(it) for it in words], built.parent.parent) != 0 or not built.is_file():
         raise NotBuilt("the library was not proved, as said above")
-    return BUILT
+    return built
 
 
-def words_of_kit():
+def words_of_kit(copy):
     """The words by which the kit's own `rt` builds crates/cedar_c over libraries that are built."""
     rt = unproved.module_of_kit("rtlib.py")
     try:
-        [crate] = [it for it in rt.crates_below(str(TOP)) if it.name == CRATE]
+        [crate] = [it for it in rt.crates_below(str(copy)) if it.name == CRATE]
         lacking = [it.name for it in crate.below() if not Path(it.rlib).is_dir()]
         words = crate.words(["--jobs", "1"], keeps=False)
     except (AttributeError, TypeError, ValueError) as error:
         raise unproved.KitDoesNotFit(f"rtlib.py of the kit has not the functions that this script calls: {error}") from error
     if lacking:
         raise NotBuilt(f"rt ci has left no library {lacking[0]}")
-    return [*words, "--toolchain", unproved.kit() / "toolchain", "--backend", "llvm", "-o", BUILT]
+    return [*words, "--toolchain", unproved.kit() / "toolchain", "--backend", "llvm"]
 
 
 def lacking():

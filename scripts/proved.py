@@ -15,14 +15,16 @@ from pathlib import Path
 
 import stamp
 import unproved
+from gate import copies
 
 TOP = Path(__file__).resolve().parent.parent
 CRATE = "cedar_validate"
 # What stops a proof.
 STOPS = (signal.SIGTERM, signal.SIGINT)
 KEPT = TOP / "out" / "proved" / CRATE
-# What `rt run` builds.
-BUILT = TOP / "crates" / CRATE / "out" / CRATE
+# The copy in which the program is proved, and what is built there.
+COPY = TOP / "out" / "install"
+BUILT = COPY / "crates" / CRATE / "out" / CRATE
 
 
 class Stopped(Exception):
@@ -84,12 +86,12 @@ def heed():
     signal.pthread_sigmask(signal.SIG_UNBLOCK, STOPS)
 
 
-def run(words, crate=CRATE):
-    """Runs a command of the toolchain on a crate, in a group of its own that ends where this script is stopped. Its status."""
+def run(words, folder):
+    """Runs a command in a folder, in a group of its own that ends where this script is stopped. Its status."""
     # (a signal that came between the child's start and the `try` would leave it running)
     signal.pthread_sigmask(signal.SIG_BLOCK, STOPS)
     try:
-        child = subprocess.Popen(words, cwd=TOP / "crates" / crate, stdin=subprocess.DEVNULL, stdout=sys.stderr, start_new_session=True, preexec_fn=heed)
+        child = subprocess.Popen(words, cwd=folder, stdin=subprocess.DEVNULL, stdout=sys.stderr, start_new_session=True, preexec_fn=heed)
     except OSError:
         heed()
         raise
@@ -104,12 +106,16 @@ def run(words, crate=CRATE):
         raise
 
 
+def prove_copy(crates, folder):
+    """Proves a copy that has these crates alone, as the gate does, so that kept proofs are taken. Whether all were proved."""
+    copies.make(crates, folder)
+    return run([sys.executable, str(TOP / "scripts" / "gate" / "lanes.py")], folder) == 0
+
+
 def prove():
     """Proves the program, builds it and keeps it; what `rt` says goes to standard error. Whether it was proved."""
     texts = sum_of_texts()
-    # (a program that something else put there must not be taken for the one that is built now)
-    BUILT.unlink(missing_ok=True)
-    if run(["rt", "run", "--", "--help"]) != 0 or not BUILT.is_file():
+    if not prove_copy(needed(), COPY) or not BUILT.is_file():
         return False
     if sum_of_texts() != texts:
         print("a text changed while the program was proved", file=sys.stderr)

@@ -1,6 +1,6 @@
 """Makes docs/api, a page for each library that a host may call, and the tables of docs/API.md: scripts/pages.py writes them.
 
-A page begins with an index by task, of scripts/docs/tasks.txt, and with a caller that the gate proves. Each public type and call
+A page begins with an index by task, of scripts/docs/tasks.txt, and with a caller that the gate proves or a test runs. Each public type and call
 follows, with its clauses whole and with links to the definitions that they cite. What scripts/docs/tasks.txt names and the sources
 do not have is a fault, and so is a library of crates.txt that it does not name and that is not left out below.
 """
@@ -16,6 +16,7 @@ FOLDER = "docs/api"
 OTHERS = {
     "cedar_c": "the calls of `cedar.h`, for programs in other languages ([LANGUAGES](LANGUAGES.md))",
     "cedar_node_types": "laws on the types at the nodes of typed conditions ([THEOREMS](THEOREMS.md#each-node-of-a-typed-condition-has-a-type))",
+    "cedar_examples": "examples of the promises, and two parts of a host to copy ([EMBEDDING](EMBEDDING.md))",
     "cedar_findings": "what the program cedar-validate prints",
     "cedar_fixtures": "schemas and policies of the worked rows",
     "cedar_rows": "the worked rows",
@@ -120,7 +121,9 @@ def caller(crate, place, files):
         raise Gone(f"{TASKS}: `{name}` of {path} calls nothing of {crate.name}")
     if path.split("/")[1] not in dict(listings.crates_of(files)):
         raise Gone(f"{TASKS}: {path} is in no crate of crates.txt, so that nothing proves it")
-    return [f"From [{path}]({TOP}{path}), which `scripts/prove` proves:", "", "```rust", *lines, "```"]
+    is_run = path.split("/")[1].endswith(listings.TESTS)
+    how = "`scripts/test` runs" if is_run else "`scripts/prove` proves"
+    return [f"From [{path}]({TOP}{path}), which {how}:", "", "```rust", *lines, "```"]
 
 
 # ---- the parts of a page

@@ -1,13 +1,13 @@
 #!/usr/bin/env python3
 """The line of a whole run of scripts/prove, a row of docs/gate.tsv. scripts/prove calls this before the run, and after it:
 
-    gate_line.py begin                                            prints the columns that are known before the run
-    gate_line.py row BEFORE SECONDS USED PASSED FAILED CI TIMES   prints the row
+    gate_line.py begin WHAT                                   prints the columns that are known before the run
+    gate_line.py row BEFORE SECONDS USED PASSED FAILED TIMES  prints the row
 
-BEFORE is what the first call printed. SECONDS are those of the run by the clock, and USED those of processors. rt ci began
-CI seconds after 1970, with the lowest crate. TIMES is a file with lines such as `  1400 s  cedar_types proved`: the seconds
-after which rt ci said so. It says nothing when it begins a crate, but makes the crate's folder out/ then: that folder's
-time of birth is read. What was not seen is `?`.
+WHAT is `gate` or `all`. BEFORE is what the first call printed. SECONDS are those of the run by the clock, and USED those of
+processors. TIMES is the file that scripts/gate/lanes.py wrote, with a line for each proof that was made. What was not seen is
+`?`. A row of another machine can be set beside this one by the seconds of `cedar_frames`, which are the same on each machine but
+for its speed.
 """
 import os
 import re
@@ -17,23 +17,25 @@ from pathlib import Path
 
 sys.path.insert(0, str(Path(__file__).resolve().parent.parent))
 import stamp  # noqa: E402
-import unproved  # noqa: E402
+from gate import times  # noqa: E402
 
 TOP = Path(__file__).resolve().parents[2]
 TABLE = TOP / "docs" / "gate.tsv"
 COLUMNS = (
     "commit",
     "date in UTC",
+    "gate or all",
     "cores",
     "GB free before",
+    "kit",
     "minutes by the clock",
     "minutes of processors",
-    "kit",
+    "seconds of processors for cedar_frames",
     "passed",
     "failed",
-    "crates, in minutes of rt ci: NAME=BEGUN-PROVED, or NAME=BEGUN-PROVED-TESTS PROVED",
+    "proofs, in minutes of rt ci: NAME=BEGUN-PROVED/OF PROCESSORS, where NAME+tests is the proof of the tests",
 )
-STEP = re.compile(r" *(\d+) s  (\w+)(: its tests are)? (proved|NOT PROVED)")
+YARDSTICK = "cedar_frames"
 UNSEEN = stamp.UNSEEN
 
 
@@ -43,53 +45,37 @@ def gigabytes(text):
     return str(int(found[1]) * 1024 // 10**9) if found else UNSEEN
 
 
-def known_before():
+def known_before(what):
     memory = Path("/proc/meminfo")
     return [
         stamp.output_of("git", "describe", "--always", "--dirty", "--exclude", "*"),
         time.strftime("%Y-%m-%d", time.gmtime()),
+        what,
         str(len(os.sched_getaffinity(0))),
         gigabytes(memory.read_text()) if memory.is_file() else UNSEEN,
         stamp.output_of("rt", "version"),
     ]
 
 
-def begun_of(folder, since):
-    """The seconds after which rt ci began with a crate, by its folder out/."""
-    born = stamp.output_of("stat", "--format=%W", folder)
-    return int(born) - since if born.isdigit() and int(born) >= since else None
+def word_of(proof):
+    begun, ended, used = (f"{it / 60:.1f}" for it in (proof.begun, proof.ended, proof.used))
+    return f"{proof.crate}{'+tests' * (proof.part == 'tests')}={begun}-{ended}/{used}"
 
 
-def begins(crates, since):
-    """The seconds after which rt ci began with each crate: at once with the lowest, the first of them."""
-    return {crate: begun_of(f"crates/{crate}/out", since) for crate in crates} | {next(iter(crates)): 0}
-
-
-def steps_of(text):
-    """The seconds after which each crate was proved, and its tests; None where they were not."""
-    found = filter(None, map(STEP.fullmatch, text.splitlines()))
-    return {(it[2], bool(it[3])): int(it[1]) if it[4] == "proved" else None for it in found}
-
-
-def word_of(crate, *seconds):
-    return f"{crate}=" + "-".join(UNSEEN if it is None else f"{it / 60:.1f}" for it in seconds)
-
-
-def words_of(crates, begun, steps):
-    """A word for each crate, with three times where rt ci spoke of its tests."""
-    for crate in crates:
-        tested = [steps[crate, True]] if (crate, True) in steps else []
-        yield word_of(crate, begun.get(crate), steps.get((crate, False)), *tested)
-
-
-def row_of(before, seconds, used, passed, failed, words):
-    commit, date, cores, free, kit = before
+def row_of(before, seconds, used, passed, failed, proofs):
     minutes = [str(round(int(it) / 60)) for it in (seconds, used)]
-    return "\t".join([commit, date, cores, free, *minutes, kit, passed, failed, " ".join(words)])
+    yardstick = next((str(it.used) for it in proofs if (it.crate, it.part) == (YARDSTICK, "proof")), UNSEEN)
+    return "\t".join([*before, *minutes, yardstick, passed, failed, " ".join(map(word_of, proofs))])
+
+
+def minutes_in(word):
+    """The name of a proof in a word of a row, and its three numbers, None where unseen."""
+    name, _, numbers = word.partition("=")
+    return name, [None if it == UNSEEN else float(it) for it in re.split("[-/]", numbers)]
 
 
 def rows_of(text):
-    """The rows of a text of docs/gate.tsv: the columns, and under `crates` the minutes of each, None where unseen."""
+    """The rows of a text of docs/gate.tsv: the columns, and under `proofs` the minutes of each, None where unseen."""
     lines = text.splitlines()
     if not lines or lines[0].split("\t") != list(COLUMNS):
         raise ValueError("the first line does not name the columns")
@@ -99,24 +85,20 @@ def rows_of(text):
         if len(cells) != len(COLUMNS):
             raise ValueError(f"{len(cells)} columns, where {len(COLUMNS)} are wanted: {line[:60]}")
         row = dict(zip(COLUMNS, cells))
-        named = [word.partition("=") for word in row.pop(COLUMNS[-1]).split()]
-        row["crates"] = {name: [None if it == UNSEEN else float(it) for it in minutes.split("-")] for name, _, minutes in named}
+        row["proofs"] = dict(map(minutes_in, row.pop(COLUMNS[-1]).split()))
         found.append(row)
     return found
 
 
 def main(words):
-    if words == ["begin"]:
-        print("\t".join(known_before()))
+    if len(words) == 2 and words[0] == "begin":
+        print("\t".join(known_before(words[1])))
         return 0
-    if len(words) != 8 or words[0] != "row":
+    if len(words) != 7 or words[0] != "row":
         print(__doc__, file=sys.stderr)
         return 2
-    before, seconds, used, passed, failed, since, times = words[1:]
-    crates = unproved.crates_of((TOP / "crates.txt").read_text())
-    steps = steps_of(Path(times).read_text())
-    words = words_of(crates, begins(crates, int(since)), steps)
-    print(row_of(before.split("\t"), seconds, used, passed, failed, words))
+    before, seconds, used, passed, failed, file = words[1:]
+    print(row_of(before.split("\t"), seconds, used, passed, failed, times.read(file)))
     return 0
 
 

@@ -7,11 +7,13 @@ went as they should.
 """
 import contextlib
 import io
+import json
 import os
 import shutil
 import signal
 import subprocess
 import sys
+import tarfile
 import tempfile
 import threading
 import time
@@ -24,24 +26,19 @@ import library  # noqa: E402
 import proved  # noqa: E402
 import stamp  # noqa: E402
 import unproved  # noqa: E402
-from gate import gate_line, lanes  # noqa: E402
+import proofs as travelling  # noqa: E402
+from gate import copies, gate_line, kept, lanes, times  # noqa: E402
 from gate.kept import Kept  # noqa: E402
 
 TOP = Path(__file__).resolve().parents[2]
 SECONDS = 60
 CRATES = "# All.\nlow: thiserror\nside: low\n\nhigh: low anyhow\ntop: low high\n"
-TIMES = """     3 s  scripts/refused.py: 4 s of processors
-    90 s  low proved
-   400 s  side NOT PROVED
-   126 s  high proved
-    96 s  high: its tests are proved
-   720 s  rt ci: 900 s of processors
-"""
-BEFORE = ["abc1234", "2026-01-02", "4", "22", "a kit"]
-WORDS = ["low=0.0-1.5", "side=1.5-?", "high=1.5-2.1-1.6", "top=?-?"]
-ROW = "\t".join(["abc1234", "2026-01-02", "4", "22", "12", "15", "a kit", "7", "1", " ".join(WORDS)])
-READ = {"low": [0.0, 1.5], "side": [1.5, None], "high": [1.5, 2.1, 1.6], "top": [None, None]}
-OLDER = ROW.replace("top=?-?", "top=10-19.6").replace("\t4\t", "\t2\t")
+TIMES = "low\tproof\t0\t90\t2\t150\nhigh\tproof\t91\t126\t4\t120\nhigh\ttests\t130\t160\t2\t48\ncedar_frames\tproof\t2\t70\t2\t66\n"
+BEFORE = ["abc1234", "2026-01-02", "gate", "4", "22", "a kit"]
+WORDS = "low=0.0-1.5/2.5 high=1.5-2.1/2.0 high+tests=2.2-2.7/0.8 cedar_frames=0.0-1.2/1.1"
+ROW = "\t".join([*BEFORE, "12", "15", "66", "7", "1", WORDS])
+READ = {"low": [0.0, 1.5, 2.5], "high": [1.5, 2.1, 2.0], "high+tests": [2.2, 2.7, 0.8], "cedar_frames": [0.0, 1.2, 1.1]}
+OLDER = ROW.replace("cedar_frames=0.0-1.2/1.1", "top=10-19.6/?").replace("\t4\t", "\t2\t")
 
 
 def table(*rows):
@@ -58,25 +55,20 @@ def is_refused(text):
 
 def lines():
     """What gate_line.py makes of a run: each sample, and whether it goes as it should."""
-    steps = gate_line.steps_of(TIMES)
-    yield "steps", steps == {("low", False): 90, ("side", False): None, ("high", False): 126, ("high", True): 96}
-    words = list(gate_line.words_of(unproved.crates_of(CRATES), {"low": 0, "side": 90, "high": 91}, steps))
-    yield "words", words == WORDS
-    yield "begins", gate_line.begins(unproved.crates_of(CRATES), 0) == {"low": 0, "side": None, "high": None, "top": None}
-    yield "a row", gate_line.row_of(BEFORE, "719", "905", "7", "1", words) == ROW
+    with tempfile.NamedTemporaryFile("w+") as file:
+        file.write(TIMES)
+        file.flush()
+        proofs = times.read(file.name)
+    yield "a row", gate_line.row_of(BEFORE, "719", "905", "7", "1", proofs) == ROW
+    yield "a row without the yardstick", gate_line.row_of(BEFORE, "719", "905", "7", "1", proofs[:1]).split("\t")[8] == "?"
+    yield "a run that proved nothing", times.read("/no/such/file") == []
     read = gate_line.rows_of(table(ROW))
-    yield "a row that is read", len(read) == 1 and read[0]["crates"] == READ and read[0]["minutes by the clock"] == "12"
+    yield "a row that is read", len(read) == 1 and read[0]["proofs"] == READ and read[0]["minutes by the clock"] == "12"
     yield "rows of another form", is_refused(ROW) and is_refused("") and is_refused(table(ROW + "\tmore"))
     yield "docs/gate.tsv", gate_line.rows_of(gate_line.TABLE.read_text()) != []
     yield "memory", gate_line.gigabytes("MemFree: 1 kB\nMemAvailable:   22000000 kB\n") == "22" and gate_line.gigabytes("") == "?"
-    before = gate_line.known_before()
-    yield "before a run", len(before) == len(BEFORE) and int(before[2]) > 0 and not any("\t" in it or not it for it in before)
-    with tempfile.TemporaryDirectory() as room:
-        now = int(time.time())
-        # not every file system tells the time of birth
-        yield "a folder's birth", gate_line.begun_of(room, now - 5) in (None, *range(60))
-        yield "an old folder", gate_line.begun_of(room, now + 60) is None
-        yield "no folder", gate_line.begun_of(f"{room}/out", 0) is None
+    before = gate_line.known_before("gate")
+    yield "before a run", len(before) == len(BEFORE) and int(before[3]) > 0 and not any("\t" in it or not it for it in before)
 
 
 def ended(words):
@@ -156,7 +148,7 @@ def installations():
         proving = proved.prove
         proved.prove = lambda: False
         status, out, error = ended([f"{folder}"])
-        line = f"scripts/install: proving {len(proved.needed())} crates, one after another: cedar_types "
+        line = f"scripts/install: proving {len(proved.needed())} crates: cedar_types "
         yield "no proof", status == 70 and not out and line in error and not list(folder.iterdir())
         a_program(proved.BUILT)
         proved.prove = lambda: proved.keep(proved.BUILT, proved.sum_of_texts()) is None
@@ -178,31 +170,27 @@ def installations():
 
 def libraries():
     """How the C library is installed: the words, that nothing is put where nothing was proved, and what is put where it was."""
+    over = library.over
     with tempfile.TemporaryDirectory() as room:
-        folder, proving, putting = Path(room, "a"), proved.run, library.put
+        folder, proving, putting = Path(room, "a"), proved.prove_copy, library.put
         for words in ([], [""], ["--proved"], [f"{folder}", "more"]):
             yield f"wrong: {words}", ended(["--library", *words])[0] == 2
         try:
-            proved.run = lambda words, crate: 1
+            proved.prove_copy = lambda crates, copy: False
             yield "no proof", refuses(library.with_proof) and not folder.exists()
-            proved.run = lambda words, crate: builds_nothing()
+            proved.prove_copy = lambda crates, copy: crates[-1] == library.CRATE
+            library.over = lambda copy: copy
             library.put = lambda calls, to: to.mkdir(parents=True)
             line = "scripts/install: proving "
             status, out, error = ended(["--library", f"{folder}"])
             yield "a proof", (status, out) == (0, f"installed the library in {folder}, which is proved\n") and error.startswith(line) and folder.is_dir()
         finally:
-            proved.run, library.put = proving, putting
-            library.BUILT.unlink(missing_ok=True)
-    yield "over no gate", refuses(lambda: library.archive_by(["false"]))
+            proved.prove_copy, library.put, library.over = proving, putting, over
+        yield "over no gate", refuses(lambda: library.over(folder))
     module = [f'define internal i32 @"joined::of_cedar_c::{name}"(ptr %0) {{\n' for name in library.CALLS]
     kept = "".join(library.exported([*module, "define i32 @main() {\n"]))
     yield "exports", kept == "".join(f"define i32 @{name}(ptr %0) {{\n" for name in library.CALLS) + "define internal i32 @main() {\n"
     yield "a call that is missing", refuses(lambda: list(library.exported(module[1:])))
-
-
-def builds_nothing():
-    library.BUILT.parent.mkdir(parents=True, exist_ok=True)
-    return library.BUILT.write_bytes(b"")
 
 
 def refuses(build):
@@ -214,17 +202,37 @@ def refuses(build):
 
 
 # A command `rt` that notes its words and whether CI is set, and ends as rt ci does where all passed.
-NOTES = """#!/bin/sh
-[ "$1" = version ] && echo a kit && exit
-echo "$*${CI+ in CI}${RT_JOBS+ by so many jobs}" >>"$NOTES"
-echo "rt: cedar_types proved"
-echo "3 passed, 0 failed"
-"""
+NOTES = '''#!/usr/bin/env python3
+import os, sys
+
+
+def main(words):
+    with open(os.environ["NOTES"], "a") as notes:
+        notes.write(" ".join(words) + "\\n")
+    print("3 passed, 0 failed")
+    return 0
+
+
+def in_lanes(tasks):
+    return {}
+
+
+if __name__ == "__main__":
+    sys.exit(print("a kit") if sys.argv[1] == "version" else main(sys.argv[1:]))
+'''
 # One that waits until it is ended.
-WAITS = """#!/bin/sh
-touch "$BEGUN"
-exec sleep 60
-"""
+WAITS = '''#!/usr/bin/env python3
+import os, pathlib, time
+
+
+def main(words):
+    pathlib.Path(os.environ["BEGUN"]).touch()
+    time.sleep(60)
+
+
+def in_lanes(tasks):
+    return {}
+'''
 
 
 @contextlib.contextmanager
@@ -297,7 +305,16 @@ def shares():
     for name in ("one", "two"):
         small.add(name, [], 5, 4)
     lanes.side_by_side(small.tasks, 4, lambda: 5 * GIGABYTE)
-    yield "as many as memory holds", small.most == 1
+    yield "as many as memory holds, with one job", small.most == 1
+    few = Proofs()
+    for name in ("one", "two", "three"):
+        few.add(name, [], 5, 1)
+    lanes.side_by_side(few.tasks, 2, lambda: 20 * GIGABYTE)
+    yield "two jobs for each proof on two processors", [jobs for jobs, _ in few.begun.values()] == [2, 2, 2] and few.most == 2
+    lone = Proofs()
+    lone.add("one", [], 5, 1)
+    lanes.side_by_side(lone.tasks, 1, lambda: 20 * GIGABYTE)
+    yield "one job on one processor", lone.begun["one"][0] == 1
     small.add("huge", ["one"], 5000, 40)
     yield "one that no memory holds", lanes.side_by_side(small.tasks, 4, lambda: 5 * GIGABYTE).keys() == small.tasks.keys()
     with tempfile.NamedTemporaryFile() as marker, mock.patch.dict(os.environ, {lanes.BESIDE: marker.name}):
@@ -307,8 +324,8 @@ def shares():
     with mock.patch.dict(os.environ):
         os.environ.pop(lanes.BESIDE, None)
         yield "memory without tests", lanes.memory_beside(GIGABYTE)() == 0.92 * GIGABYTE
-    yield "jobs of a kit", [lanes.with_lanes(it * GIGABYTE)["RT_JOBS"] for it in (1, 5)] == ["1", "1"]
-    yield "a function that is not known", not lanes.is_known("def in_lanes(tasks):\n    return {}\n\n\ndef other():\n") and not lanes.is_known("")
+    yield "tasks that are known", lanes.are_known(proofs.tasks)
+    yield "other tasks", not lanes.are_known({("low", "more"): ([], 1, 1, None)}) and not lanes.are_known({("low", "proof"): ([], 1)})
 
 
 class Checkout:
@@ -369,7 +386,7 @@ def keeping():
         for path in its.store.rglob("it"):
             path.unlink()
             path.write_text("other bytes")
-        yield "other bytes", its.run() == every and its.library("low") == "low by a text"
+        yield "other bytes", its.run() == every[:2] and its.library("low") == "low by a text"
         its.write("high", "a wrong text")
         its.is_well = False
         yield "a proof that fails", its.run() == its.run() == every[1:]
@@ -379,17 +396,73 @@ def keeping():
         yield "a folder that cannot be", its.run() == its.run() == every
 
 
+def travels():
+    """Which proofs of a file are taken on another machine."""
+    with tempfile.TemporaryDirectory() as room, contextlib.redirect_stdout(io.StringIO()) as said:
+        here, there = Checkout(Path(room, "here")), Checkout(Path(room, "there"))
+        file = Path(room, "proofs")
+        store = travelling.OwnStore(here.store, here.top)
+        yield "nothing to export", "keeps no proof" in why_nothing(lambda: travelling.export(file, store))
+        here.run()
+        yield "exported", travelling.export(file, travelling.OwnStore(here.store, here.top)) == ["low", "high"]
+        there.write("high", "another text")
+        yield "another text", travelling.take(file, travelling.OwnStore(there.store, there.top)) == ["low"]
+        yield "what is said of it", "high is left out: its texts, or those below, are others" in said.getvalue()
+        there.write("high", "a text")
+        yield "imported", travelling.take(file, travelling.OwnStore(there.store, there.top)) == ["low", "high"]
+        yield "taken", there.run() == ["high tests"] and there.library("high") == "high by a text"
+        there.write("low", "another text")
+        shutil.rmtree(there.store)
+        yield "another text below", travelling.take(file, travelling.OwnStore(there.store, there.top)) == []
+        there.write("low", "a text")
+        repacked(file, lambda rows: rows["low"].update(bytes="0" * 64))
+        yield "other bytes than listed", travelling.take(file, travelling.OwnStore(there.store, there.top)) == []
+        repacked(file, lambda rows: rows["low"].update(folder="../../low"))
+        yield "a folder elsewhere", travelling.take(file, travelling.OwnStore(there.store, there.top)) == []
+        file.write_bytes(b"no pack")
+        yield "no such file", "is no file of" in why_nothing(lambda: travelling.take(file, store))
+
+
+def why_nothing(call):
+    try:
+        call()
+    except travelling.Wrong as why:
+        return str(why)
+    return ""
+
+
+def repacked(file, change):
+    """Packs a file of proofs again, after a change of the rows of its list."""
+    with tempfile.TemporaryDirectory() as held:
+        room = Path(held)
+        with tarfile.open(file) as pack:
+            pack.extractall(room)
+        listed = json.loads((room / travelling.LIST).read_text())
+        change(listed["proofs"])
+        (room / travelling.LIST).write_text(json.dumps(listed))
+        with tarfile.open(file, "w:xz") as pack:
+            for it in room.iterdir():
+                pack.add(it, it.name)
+
+
 def beginnings():
-    """How the gate begins, in CI too: `rt ci cedar_types` first, which `rt` makes only where CI is not set, then all."""
+    """How the gate begins: `rt ci` in a copy without the crates that are only run, and with --all in one of all crates."""
     with with_rt(NOTES) as (room, env):
-        for env in ({**env, "CI": "true"}, {it: value for it, value in env.items() if it != "CI"}):
+        for words in ([], ["--all"]):
             Path(room, "notes").unlink(missing_ok=True)
-            done = subprocess.run([room / "scripts" / "prove"], env=env, stdin=subprocess.DEVNULL, capture_output=True, text=True, timeout=SECONDS)
-            notes = Path(room, "notes").read_text().splitlines()
-            in_ci = " in CI" * ("CI" in env)
-            yield f"the gate{in_ci}", notes == ["ci cedar_types", f"ci{in_ci} by so many jobs"]
+            done = subprocess.run([room / "scripts" / "prove", *words], env=env, stdin=subprocess.DEVNULL, capture_output=True, text=True, timeout=SECONDS)
+            yield f"the gate {words}", Path(room, "notes").read_text().splitlines() == ["ci"]
+            made = {it.name for it in (room / "out" / "gate" / "crates").iterdir()}
+            yield f"its copy {words}", made == {*unproved.USES} if words else not any(copies.is_run_alone(it) for it in made)
             # what stands for the kit has no `rattle`, so all parts but the first fail
-            yield f"a part that fails{in_ci}", "== failed in scripts/refused.py" in done.stdout and done.returncode == 1
+            yield f"a part that fails {words}", "== failed in scripts/where_cases.py" in done.stdout and done.returncode == 1
+        done = subprocess.run([room / "scripts" / "prove", "--every"], env=env, stdin=subprocess.DEVNULL, capture_output=True, text=True, timeout=SECONDS)
+        yield "a word that is none", (done.returncode, done.stderr) == (2, "usage: scripts/prove [--all]\n")
+    try:
+        copies.proved_crates({"a_tests": [], "b": ["a_tests"]})
+        yield "a crate that stands on tests", False
+    except copies.StandsOnTests:
+        yield "a crate that stands on tests", True
 
 
 def heed_interrupts():
@@ -426,7 +499,7 @@ def endings():
 
 def main():
     passed = failed = 0
-    for part in (lines, forecasts, contents, installations, libraries, shares, keeping, beginnings, endings):
+    for part in (lines, forecasts, contents, installations, libraries, shares, keeping, travels, beginnings, endings):
         for what, is_well in part():
             passed += is_well
             failed += not is_well

@@ -1,9 +1,10 @@
 """Proofs that `rt ci` made on this machine, kept for its next run. scripts/gate/lanes.py asks for them where the kit keeps none.
 
 A proof is kept under a sum of all that it was made of: the kit, HANDLES, the crate's line of crates.txt, each text of the crate,
-and the proofs of the libraries below, because a library fits only the very libraries over which it was proved. It is the part
-of out/ that `rt ci` left, once it had proved the crate from nothing, with a sum of its bytes. So another text, kit or machine
-proves the crate anew, and every crate above it, and so do other bytes. A proof that no run has taken for a week goes.
+and the bytes of the libraries below, because a library fits only the very libraries over which it was proved. It is the part
+of out/ that `rt ci` left, once it had proved the crate from nothing, with a sum of its bytes. So another text or kit
+proves the crate anew, and every crate above it, and so do other bytes. On another machine the key of a proof is the same,
+because the same texts give the same bytes there (scripts/proofs takes proofs along). A proof that no run has taken for a week goes.
 """
 import hashlib
 import os
@@ -11,7 +12,6 @@ import pwd
 import shutil
 import tempfile
 import time
-import uuid
 from pathlib import Path
 
 import unproved
@@ -19,18 +19,22 @@ import unproved
 # (by the user, because HOME may be another in CI)
 FOLDER = Path(pwd.getpwuid(os.getuid()).pw_dir) / ".cache" / "cedar-proofs"
 WEEK = 7 * 24 * 3600
-# In a crate's out/: which proof stands there.
-MARK = "kept"
-# In the folder of a proof: when it was made, and the sum of its bytes.
+# In the folder of a proof: the sum of its library, when it was made, and the sum of its bytes.
+MARK = "mark"
 SINCE = "since"
 SUM = "sum"
+
+
+def of_kit(rt):
+    """The folder in which a kit keeps proofs itself, by its module `rt`; nothing where it keeps none."""
+    return unproved.kit().parent / "rattle-kept" if hasattr(rt, "STORE") else None
 
 
 def parts_of(crate, part):
     """The parts of out/ that the proof of a crate, or of its tests, leaves: a library, or a program of each compiler."""
     if part == "tests":
         return [f"{crate}_tests"]
-    return ["rlib", crate, f"{crate}.by-rattle", MARK]
+    return ["rlib", crate, f"{crate}.by-rattle"]
 
 
 def link(source, target):
@@ -69,18 +73,15 @@ class Kept:
     def __init__(self, top, folder=FOLDER):
         self.top, self.folder = Path(top), Path(folder)
         self.uses = unproved.crates_of((self.top / "crates.txt").read_text(encoding="utf8"))
+        # The sum of each library that stands proved in this run.
+        self.marks = {}
 
     def out(self, crate):
         return self.top / "crates" / crate / "out"
 
-    def mark(self, crate):
-        """Which proof of a library stands in its out/; nothing where none of this run does."""
-        path = self.out(crate) / MARK
-        return path.read_text(encoding="utf8") if path.is_file() else None
-
     def record(self, crate, part):
         """The folder of a proof, be it there or not; nothing where a library below stands unproved."""
-        marks = [self.mark(it) for it in unproved.below([crate], self.uses)]
+        marks = [self.marks.get(it) for it in unproved.below([crate], self.uses)]
         if None in marks:
             return None
         lines = [it for it in (self.top / "crates.txt").read_text(encoding="utf8").splitlines() if it.partition(":")[0].split()[:1] == [crate]]
@@ -92,13 +93,22 @@ class Kept:
                     found.update(repr((str(path.relative_to(self.top)), path.read_bytes())).encode())
         return self.folder / found.hexdigest()[:32]
 
-    def take(self, crate, part):
-        """Puts a kept proof into the crate's out/, and says since when it is kept; nothing where none is."""
+    def found(self, crate, part):
+        """The folder of a proof whose bytes are right, and its library counts as proved; nothing where none is kept."""
         record = self.record(crate, part)
         if record is None or not record.is_dir():
             return None
-        if sum_of(record) != (record / SUM).read_text(encoding="utf8"):
+        if not (record / SUM).is_file() or sum_of(record) != (record / SUM).read_text(encoding="utf8"):
             shutil.rmtree(record)
+            return None
+        if (record / MARK).is_file():
+            self.marks[crate] = (record / MARK).read_text(encoding="utf8")
+        return record
+
+    def take(self, crate, part):
+        """Puts a kept proof into the crate's out/, and says since when it is kept; nothing where none is."""
+        record = self.found(crate, part)
+        if record is None:
             return None
         self.out(crate).mkdir(parents=True, exist_ok=True)
         for name in parts_of(crate, part):
@@ -107,16 +117,17 @@ class Kept:
         return (record / SINCE).read_text(encoding="utf8")
 
     def keep(self, crate, part):
-        """Keeps a proof that `rt ci` has just made, and marks the out/ of a crate with it."""
+        """Keeps a proof that `rt ci` has just made, and has its library count as proved."""
         record = self.record(crate, part)
         if record is None:
             return
         self.folder.mkdir(parents=True, exist_ok=True)
         new = Path(tempfile.mkdtemp(prefix="new-", dir=self.folder))
-        if part == "proof":
-            (self.out(crate) / MARK).write_text(f"{crate} {uuid.uuid4()}\n", encoding="utf8")
         for name in parts_of(crate, part):
             copied(self.out(crate) / name, new / name)
+        if part == "proof" and (new / "rlib").is_dir():
+            self.marks[crate] = sum_of(new / "rlib")
+            (new / MARK).write_text(self.marks[crate], encoding="utf8")
         (new / SINCE).write_text(time.strftime("%Y-%m-%d %H:%M", time.gmtime()), encoding="utf8")
         (new / SUM).write_text(sum_of(new), encoding="utf8")
         try:

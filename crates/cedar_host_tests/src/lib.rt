@@ -1,6 +1,6 @@
-//! Verdicts of a host on a set of policies, the environments in which one is safe, its typed
-//! conditions, and the verdicts and findings of a host that loads slices; and examples of its
-//! promises. They stand apart, because a crate with tests is proved twice.
+//! Tests of a host: verdicts on a set of policies, the environments in which one is safe, typed
+//! conditions, and the verdicts and findings of a host that loads slices. They stand apart, because
+//! the gate proves no tests.
 #![tactic(auto)]
 
 #[cfg(test)]
@@ -10,14 +10,12 @@ mod conditions;
 pub mod embedding;
 #[cfg(test)]
 mod enumerated;
-pub mod examples;
 #[cfg(test)]
 mod extensions;
 #[cfg(test)]
 mod ids;
 #[cfg(test)]
 mod loading;
-pub mod memory;
 #[cfg(test)]
 mod policy_sets;
 #[cfg(test)]

@@ -1,5 +1,5 @@
 // Ids that a host finds in a small store, and the number of times that it asks for the ids inside an entity.
-use crate::memory::{Linked, Memory};
+use cedar_examples::memory::{Linked, Memory};
 use cedar_host::loading::ids_within;
 use cedar_types::base::{EntityType, EntityUID, Name};
 use std::alloc::{AllocError, Global};

@@ -1,6 +1,6 @@
 // Questions to a host, round by round, with an error of its own, and the ends of the rounds.
-use crate::embedding::in_rounds::{held_by, ids_in_rounds};
 use crate::loading::{are_users, memory, users};
+use cedar_examples::in_rounds::{held_by, ids_in_rounds};
 use cedar_host::rounds::Rounds;
 use cedar_types::base::EntityUID;
 use std::alloc::{AllocError, Global};

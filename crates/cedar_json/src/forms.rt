@@ -3,53 +3,71 @@ use crate::faults::{Fault, ReadError};
 use crate::values::{Key, Value, ValueKind};
 use cedar_types::base::Loc;
 use std::alloc::{AllocError, AllocFailed};
+use std::fmt;
 use thiserror::Error;
 
 /// A fault at a byte of a JSON text that is read as a schema or as policies.
-#[derive(Clone, Copy, PartialEq, Eq, Debug, Error)]
+#[derive(Clone, Copy, PartialEq, Eq, Debug)]
 pub enum FormFault {
     /// The text is not JSON that the reader accepts.
-    #[error("{0}")]
     Json(Fault),
     /// Another form of value is expected here.
-    #[error("{0} is expected")]
     Expected(&'static str),
     /// `null` stands where Cedar has a value.
-    #[error("`null` has no meaning here")]
     Null,
     /// A key is missing in an object.
-    #[error("the key `{0}` is missing")]
     Missing(&'static str),
     /// A key that has no meaning in its object, or none together with the other keys.
-    #[error("a key that has no meaning here")]
     UnknownKey,
     /// A name that is not words with `::` between them.
-    #[error("a name is expected, as words with `::` between them")]
     Name,
-    #[error("a name that is not declared")]
     Undeclared,
     /// A name that means another type in Cedar's own syntax, for example if an entity type and a
     /// common type share it.
-    #[error("a name that means another type in Cedar's own syntax")]
     Hidden,
     /// A common type whose definition leads back to itself.
-    #[error("a common type that stands for itself")]
     Circular,
-    #[error("a record that is open to other attributes")]
     OpenRecord,
-    #[error("attributes of an action")]
     ActionAttributes,
     /// The type of an action in a policy's scope is not named `Action`.
-    #[error("the type of an action has to be named `Action`")]
     ActionType,
     /// `a is T in b`, if `a` stands twice in the tree and has such an operator itself.
-    #[error("an `is` with `in` behind an operand that has one too")]
     Twice,
     /// The schema would be too long in Cedar's own syntax.
-    #[error("too large")]
     TooLarge,
-    #[error("nested too deep")]
     TooDeep,
+}
+
+impl FormFault {
+    /// The text of a fault without data; nothing for the others.
+    fn text(self) -> &'static str {
+        match self {
+            FormFault::Null => "`null` has no meaning here",
+            FormFault::UnknownKey => "a key that has no meaning here",
+            FormFault::Name => "a name is expected, as words with `::` between them",
+            FormFault::Undeclared => "a name that is not declared",
+            FormFault::Hidden => "a name that means another type in Cedar's own syntax",
+            FormFault::Circular => "a common type that stands for itself",
+            FormFault::OpenRecord => "a record that is open to other attributes",
+            FormFault::ActionAttributes => "attributes of an action",
+            FormFault::ActionType => "the type of an action has to be named `Action`",
+            FormFault::Twice => "an `is` with `in` behind an operand that has one too",
+            FormFault::TooLarge => "too large",
+            FormFault::TooDeep => "nested too deep",
+            _ => "",
+        }
+    }
+}
+
+impl fmt::Display for FormFault {
+    fn fmt<W: fmt::Write>(&self, f: &mut fmt::Formatter<W>) -> fmt::Result {
+        match self {
+            FormFault::Json(it) => write!(f, "{it}"),
+            FormFault::Expected(it) => write!(f, "{it} is expected"),
+            FormFault::Missing(it) => write!(f, "the key `{it}` is missing"),
+            _ => f.write_str(self.text()),
+        }
+    }
 }
 
 /// The reason why a JSON text gives no schema or no policy: its first fault and the byte at which

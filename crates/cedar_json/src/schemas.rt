@@ -78,6 +78,7 @@ fn put_schema(alloc: Global, out: &mut Translation, json: &str) -> Result<Names,
             put_namespace(out, &declared, name, body)?;
         }
     }
+    out.check()?;
     Ok(declared.names)
 }
 

@@ -13,6 +13,8 @@ pub struct Translation {
     marks: Vec<Mark>,
     /// The faults of the JSON text that were noted.
     faults: Vec<PlacedFault>,
+    /// Why writing stopped, if it did: nothing is written from then on.
+    stopped: Option<FormError>,
 }
 
 /// A mark: from byte `at` to the next mark, the text was written from the part `origin` of the JSON
@@ -30,6 +32,7 @@ impl Translation {
             text: String::new(alloc),
             marks: Vec::new(alloc),
             faults: Vec::new(alloc),
+            stopped: None,
         }
     }
 
@@ -52,25 +55,36 @@ impl Translation {
     }
 
     /// Writes a text from the part of the last mark.
-    pub fn put(&mut self, text: &str) -> Result<(), FormError> {
-        self.text.push_str(text)?;
-        Ok(())
+    pub fn put(&mut self, text: &str) {
+        if self.stopped.is_none() && self.text.push_str(text).is_err() {
+            self.stopped = Some(FormError::Memory(AllocError));
+        }
     }
 
-    /// Writes a text from this part. Fails if the whole is too long.
-    pub fn put_from(&mut self, origin: Loc, text: &str) -> Result<(), FormError> {
-        self.mark(origin)?;
-        self.put(text)
+    /// Writes a text from this part. Stops if the whole is too long.
+    pub fn put_from(&mut self, origin: Loc, text: &str) {
+        self.mark(origin);
+        self.put(text);
     }
 
     /// Writes a quoted text from this part.
-    pub fn put_quoted(&mut self, origin: Loc, text: &str) -> Result<(), FormError> {
-        self.mark(origin)?;
-        self.put("\"")?;
+    pub fn put_quoted(&mut self, origin: Loc, text: &str) {
+        self.mark(origin);
+        self.put("\"");
         for c in text.chars() {
-            self.put_escaped(c)?;
+            if self.stopped.is_none() && self.put_escaped(c).is_err() {
+                self.stopped = Some(FormError::Memory(AllocError));
+            }
         }
-        self.put("\"")
+        self.put("\"");
+    }
+
+    /// Fails if writing stopped.
+    pub fn check(&mut self) -> Result<(), FormError> {
+        match self.stopped.take() {
+            Some(error) => Err(error),
+            None => Ok(()),
+        }
     }
 
     /// Returns the value that was read. It notes a fault and returns `None`, so that reading goes
@@ -129,14 +143,17 @@ impl Translation {
         !self.faults.is_empty()
     }
 
-    /// Begins a part that was written from `origin`. Fails if the whole is too long.
-    fn mark(&mut self, origin: Loc) -> Result<(), FormError> {
-        if self.text.len() > MAX_LENGTH {
-            return Err(FormError::At(origin.start, FormFault::TooLarge));
+    /// Begins a part that was written from `origin`. Stops if the whole is too long.
+    fn mark(&mut self, origin: Loc) {
+        if self.stopped.is_some() {
+            return;
         }
         let at = self.text.len();
-        self.marks.push(Mark { at, origin })?;
-        Ok(())
+        if at > MAX_LENGTH {
+            self.stopped = Some(FormError::At(origin.start, FormFault::TooLarge));
+        } else if self.marks.push(Mark { at, origin }).is_err() {
+            self.stopped = Some(FormError::Memory(AllocError));
+        }
     }
 
     /// Writes a character as it stands in quotes.

@@ -1,9 +1,7 @@
-//! Tests of the three libraries' calls that no program makes, and of texts that no case shows; and
-//! examples of the promises of their definitions. They stand apart, because a crate with tests is
-//! proved twice.
+//! Tests of the three libraries' calls that no program makes, and of texts that no case shows. They
+//! stand apart, because the gate proves no tests.
 #![tactic(auto)]
 
-pub mod examples;
 #[cfg(test)]
 mod parts;
 #[cfg(test)]

@@ -1,10 +1,9 @@
-//! Trees, data and findings that texts have, or the faults and their places; and a law of arrays in JSON. The tests stand apart,
-//! because a crate with tests is proved twice.
+//! Tests of the trees, data and findings that texts have, or of their faults and places. They stand
+//! apart, because the gate proves no tests.
 #![tactic(auto)]
 
 #[cfg(test)]
 mod data_tests;
-pub mod examples;
 #[cfg(test)]
 mod findings_tests;
 #[cfg(test)]

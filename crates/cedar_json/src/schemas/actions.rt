@@ -16,12 +16,13 @@ pub fn put_action(
     key: &Key,
     body: &Value,
 ) -> Result<(), FormError> {
-    out.put("action ")?;
-    out.put_quoted(key.place, key.name.as_str())?;
+    out.put("action ");
+    out.put_quoted(key.place, key.name.as_str());
     if let Some(body) = out.noted(Object::of(body))? {
         put_body(out, declared, namespace, body)?;
     }
-    out.put(";\n")
+    out.put(";\n");
+    Ok(())
 }
 
 /// Writes the parents of an action, and its application.
@@ -38,12 +39,12 @@ fn put_body(
     out.noted(check_annotations(body))?;
     out.noted(check_no_attributes(body))?;
     if let Some(parents) = body.given("memberOf") {
-        out.put_from(parents.place, " in [")?;
+        out.put_from(parents.place, " in [");
         for parent in out.noted(items_of(parents))?.unwrap_or(&[]) {
             let written = put_parent(out, parent);
             out.noted(written)?;
         }
-        out.put("]")?;
+        out.put("]");
     }
     let Some(applies_to) = body.given("appliesTo") else {
         return Ok(());
@@ -73,11 +74,12 @@ fn put_parent(out: &mut Translation, parent: &Value) -> Result<(), FormError> {
     let eid = text_of(id)?;
     if let Some(own_type) = parent.given("type") {
         let name = name_of(own_type)?;
-        out.put_from(own_type.place, name)?;
-        out.put("::")?;
+        out.put_from(own_type.place, name);
+        out.put("::");
     }
-    out.put_quoted(id.place, eid)?;
-    out.put(", ")
+    out.put_quoted(id.place, eid);
+    out.put(", ");
+    Ok(())
 }
 
 /// Writes the application of an action: nothing, if no principal type or no resource type without a
@@ -94,14 +96,15 @@ fn put_application(
     if principals.is_empty() || resources.is_empty() {
         return Ok(());
     }
-    out.put_from(body.place, " appliesTo { principal: ")?;
+    out.put_from(body.place, " appliesTo { principal: ");
     put_entity_types(out, &principals)?;
-    out.put_from(body.place, ", resource: ")?;
+    out.put_from(body.place, ", resource: ");
     put_entity_types(out, &resources)?;
     if let Some(context) = body.get("context") {
         put_context(out, declared, namespace, context)?;
     }
-    out.put_from(body.place, " }")
+    out.put_from(body.place, " }");
+    Ok(())
 }
 
 /// Returns the names in the list at this key. A fault is noted, also the fault of a missing key.
@@ -125,6 +128,6 @@ fn put_context(
     context: &Value,
 ) -> Result<(), FormError> {
     let spaces = Spaces::of(namespace)?;
-    out.put_from(context.place, ", context: ")?;
+    out.put_from(context.place, ", context: ");
     put_type(out, declared, &spaces, context, MAX_DEPTH)
 }

@@ -15,8 +15,8 @@ pub fn put_entity_type(
     key: &Key,
     body: &Value,
 ) -> Result<(), FormError> {
-    out.put("entity ")?;
-    out.put_from(key.place, key.name.as_str())?;
+    out.put("entity ");
+    out.put_from(key.place, key.name.as_str());
     if let Some(body) = out.noted(Object::of(body))? {
         out.noted(check_annotations(body))?;
         match body.get("enum") {
@@ -27,7 +27,8 @@ pub fn put_entity_type(
             None => put_standard(out, declared, namespace, body)?,
         }
     }
-    out.put(";\n")
+    out.put(";\n");
+    Ok(())
 }
 
 /// Writes the ids of an enumerated type. An item that is no text becomes the empty text.
@@ -35,13 +36,14 @@ fn put_ids(out: &mut Translation, ids: &Value) -> Result<(), FormError> {
     let Some(items) = out.noted(items_of(ids))? else {
         return Ok(());
     };
-    out.put_from(ids.place, " enum [")?;
+    out.put_from(ids.place, " enum [");
     for id in items {
         let text = out.noted(text_of(id))?.unwrap_or("");
-        out.put_quoted(id.place, text)?;
-        out.put(", ")?;
+        out.put_quoted(id.place, text);
+        out.put(", ");
     }
-    out.put("]")
+    out.put("]");
+    Ok(())
 }
 
 /// Writes the parents, the attributes and the tags of a type, each of which may be missing.
@@ -54,15 +56,15 @@ fn put_standard(
     out.allow(body, &["memberOfTypes", "shape", "tags", "annotations"])?;
     if let Some(parents) = body.get("memberOfTypes") {
         let names = names_in(declared.alloc, out, parents)?;
-        out.put_from(parents.place, " in ")?;
+        out.put_from(parents.place, " in ");
         put_entity_types(out, &names)?;
     }
     if let Some(shape) = body.get("shape") {
-        out.put_from(shape.place, " = ")?;
+        out.put_from(shape.place, " = ");
         put_shape(out, declared, namespace, shape, MAX_DEPTH)?;
     }
     if let Some(tags) = body.given("tags") {
-        out.put_from(tags.place, " tags ")?;
+        out.put_from(tags.place, " tags ");
         let spaces = Spaces::of(namespace)?;
         put_type(out, declared, &spaces, tags, MAX_DEPTH)?;
     }

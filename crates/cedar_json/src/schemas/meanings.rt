@@ -95,7 +95,8 @@ pub fn put_type_name(
     if written != meant {
         return Err(FormError::At(start, FormFault::Hidden));
     }
-    out.put_from(value.place, whole)
+    out.put_from(value.place, whole);
+    Ok(())
 }
 
 /// Returns whether a name that is not declared would have a meaning in Cedar's own syntax. All
@@ -151,10 +152,11 @@ pub fn put_entity_types(
     out: &mut Translation,
     names: &Vec<NamedType<'_>>,
 ) -> Result<(), FormError> {
-    out.put("[")?;
+    out.put("[");
     for (place, name) in names {
-        out.put_from(*place, name)?;
-        out.put(", ")?;
+        out.put_from(*place, name);
+        out.put(", ");
     }
-    out.put("]")
+    out.put("]");
+    Ok(())
 }

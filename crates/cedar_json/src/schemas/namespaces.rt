@@ -22,11 +22,12 @@ pub fn put_namespace(
     if name.is_empty() {
         return put_declarations(out, declared, &key.name, body);
     }
-    out.put("namespace ")?;
-    out.put_from(key.place, name)?;
-    out.put(" {\n")?;
+    out.put("namespace ");
+    out.put_from(key.place, name);
+    out.put(" {\n");
     put_declarations(out, declared, &key.name, body)?;
-    out.put("}\n")
+    out.put("}\n");
+    Ok(())
 }
 
 /// Writes the declarations of a namespace.
@@ -56,10 +57,11 @@ fn put_common_type(
     key: &Key,
     value: &Value,
 ) -> Result<(), FormError> {
-    out.put("type ")?;
-    out.put_from(key.place, key.name.as_str())?;
-    out.put(" = ")?;
+    out.put("type ");
+    out.put_from(key.place, key.name.as_str());
+    out.put(" = ");
     let spaces = Spaces::of(namespace)?;
     put_type(out, declared, &spaces, value, MAX_DEPTH)?;
-    out.put(";\n")
+    out.put(";\n");
+    Ok(())
 }

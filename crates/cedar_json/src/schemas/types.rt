@@ -35,9 +35,10 @@ pub fn put_type(
     let Some(element) = out.noted(object.need("element"))? else {
         return put_unsure(out, value.place);
     };
-    out.put_from(named.place, "Set<")?;
+    out.put_from(named.place, "Set<");
     put_type(out, declared, spaces, element, left)?;
-    out.put(">")
+    out.put(">");
+    Ok(())
 }
 
 /// The required parts of a type.
@@ -60,7 +61,8 @@ impl<'a> TypeParts<'a> {
 
 /// Writes a record without attributes.
 fn put_unsure(out: &mut Translation, place: Loc) -> Result<(), FormError> {
-    out.put_from(place, "{}")
+    out.put_from(place, "{}");
+    Ok(())
 }
 
 /// The keys of a record.
@@ -86,13 +88,14 @@ pub fn put_record(
     };
     out.allow(object, &KEYS_OF_RECORD)?;
     out.noted(check_closed(object))?;
-    out.put_from(object.place, "{")?;
+    out.put_from(object.place, "{");
     for (key, value) in out.entries_at(object, "attributes")? {
         put_key(out, key, value)?;
         put_type(out, declared, spaces, value, left)?;
-        out.put(", ")?;
+        out.put(", ");
     }
-    out.put_from(object.place, "}")
+    out.put_from(object.place, "}");
+    Ok(())
 }
 
 /// Fails if a record may have further attributes.
@@ -107,9 +110,10 @@ fn check_closed(object: Object<'_>) -> Result<(), FormError> {
 
 /// Writes the key of an attribute, and a `?` if it is not required.
 fn put_key(out: &mut Translation, key: &Key, value: &Value) -> Result<(), FormError> {
-    out.put_quoted(key.place, key.name.as_str())?;
+    out.put_quoted(key.place, key.name.as_str());
     let is_required = out.noted(is_required(value))?.unwrap_or(true);
-    out.put(if is_required { ": " } else { "?: " })
+    out.put(if is_required { ": " } else { "?: " });
+    Ok(())
 }
 
 /// Returns whether an attribute of this type is required.
@@ -150,9 +154,18 @@ fn put_name_of_type(
         out.allow(object, &["type", "annotations", "required"])?;
     }
     match kind {
-        "Long" => out.put_from(named.place, "__cedar::Long"),
-        "String" => out.put_from(named.place, "__cedar::String"),
-        "Boolean" | "Bool" => out.put_from(named.place, "__cedar::Bool"),
+        "Long" => {
+            out.put_from(named.place, "__cedar::Long");
+            Ok(())
+        }
+        "String" => {
+            out.put_from(named.place, "__cedar::String");
+            Ok(())
+        }
+        "Boolean" | "Bool" => {
+            out.put_from(named.place, "__cedar::Bool");
+            Ok(())
+        }
         "Extension" => put_extension(out, object.need("name")?),
         "Entity" => {
             put_type_name(
@@ -197,8 +210,9 @@ fn put_extension(out: &mut Translation, named: &Value) -> Result<(), FormError> 
     if matches!(name, "Long" | "String" | "Bool") {
         return Err(FormError::At(named.place.start, FormFault::Undeclared));
     }
-    out.put_from(named.place, "__cedar::")?;
-    out.put(name)
+    out.put_from(named.place, "__cedar::");
+    out.put(name);
+    Ok(())
 }
 
 /// Writes the attributes of an entity type, which have to be a record. A common type that is a

@@ -1,0 +1,9 @@
+mod ArraysAreRead
+mod ExpressionPromises
+mod LeftOut
+mod LoadedData
+mod ModeConclusions
+mod Places
+mod PolicyPromises
+mod Promises
+mod ResponseConclusions

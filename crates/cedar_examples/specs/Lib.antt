@@ -1,0 +1,10 @@
+pub mod ArraysAreRead
+pub mod ExpressionPromises
+pub mod LeftOut
+pub mod LoadedData
+pub mod Memory
+pub mod ModeConclusions
+pub mod Places
+pub mod PolicyPromises
+pub mod Promises
+pub mod ResponseConclusions

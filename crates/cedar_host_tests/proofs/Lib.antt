@@ -1,5 +1,0 @@
-mod Conclusions
-mod LeftOut
-mod LoadedData
-mod Places
-mod Promises

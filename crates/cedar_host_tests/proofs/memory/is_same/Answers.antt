@@ -1,6 +1,0 @@
-use Rattle.std.proofs.Common.{◌∙◌}
-use Rattle.cedar_types.specs.Lemmas.Comparisons.{uid_is}
-use Rattle.cedar_host_tests.proofs.memory.is_same.Goals as goal
-
-pub returns : goal.returns
-returns c = c.eq.ensures ∙ uid_is c.args.one.now c.args.other.now

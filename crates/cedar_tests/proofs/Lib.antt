@@ -1,3 +1,0 @@
-mod Conclusions
-mod ExpressionPromises
-mod PolicyPromises

@@ -1,3 +1,0 @@
-pub mod Conclusions
-pub mod ExpressionPromises
-pub mod PolicyPromises
