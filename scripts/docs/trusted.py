@@ -189,10 +189,9 @@ def sentence(files):
     is_free = not has_rules(reach(files)[0]) and not has_rules(reach(files, *LET_IN)[0])
     kind = "none of them a rule of typing or of levels" if is_free else "rules of typing or of levels among them"
     return [
-        f"Who calls `{PROMISE[0]}` of `cedar_host` has to believe {sum(by_subject.values()):,} of some {rounded(there)} lines of",
-        f"definitions, and who calls `{LET_IN[0]}` {lines_of(files, *LET_IN):,}, {kind}. The clauses",
-        f"of `{OTHER[0]}` cite the rules, because their premises say in words of the rules what passes:",
-        f"{lines_of(files, *OTHER):,} lines (`scripts/docs/trusted.py` lists them). What else is trusted stands below.",
+        f"If you call `{PROMISE[0]}` of `cedar_host`, you have to trust {sum(by_subject.values()):,} of some {rounded(there)} lines of",
+        f"definitions ({lines_of(files, *LET_IN):,} for `{LET_IN[0]}`), {kind}. The clauses of",
+        f"`{OTHER[0]}` cite the rules: {lines_of(files, *OTHER):,} lines (`scripts/docs/trusted.py` lists them).",
     ]
 
 
