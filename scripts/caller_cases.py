@@ -33,7 +33,8 @@ NESTED = {
     "and": lambda n: " && ".join(["principal.on"] * n),
     "sum": lambda n: " + ".join(["1"] * n) + " == 1",
     "access": lambda n: "principal" + ".again" * n + ".on",
-    "negation": lambda n: "!" * n + "principal.on",
+    # (four negations may stand side by side)
+    "negation": lambda n: "!!!!(" * (n // 4) + "!" * (n % 4) + "principal.on" + ")" * (n // 4),
     "parentheses": lambda n: "(" * n + "principal.on" + ")" * n,
     "left": lambda n: "(" * n + "principal.on" + " || principal.on)" * n,
     "right": lambda n: "(principal.on || " * n + "principal.on" + ")" * n,

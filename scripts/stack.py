@@ -23,7 +23,7 @@ CONDITIONS = {
     "or": " || ".join(["principal.on"] * DEPTH),
     "sum": " + ".join(["1"] * DEPTH) + " == 1",
     "access": "principal" + ".again" * DEPTH + ".on",
-    "negation": "!" * DEPTH + "principal.on",
+    "negation": "!!!!(" * (DEPTH // 4) + "principal.on" + ")" * (DEPTH // 4),
     "parentheses": "(" * 2 * DEPTH + "principal.on" + ")" * 2 * DEPTH,
     "parentheses on the left": "(" * DEPTH + "principal.on" + " || principal.on)" * (DEPTH - 1) + ")",
     "parentheses on the right": "(principal.on || " * (DEPTH - 1) + "principal.on" + ")" * (DEPTH - 1),

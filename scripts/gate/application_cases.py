@@ -63,7 +63,7 @@ POLICIES = (
     (when(f'principal.name == "{"x" * LARGE}" && principal.ag > 1'), 1, f"p:1:{LARGE + 68}: error: attribute `ag` does not exist on `User`"),
     (when(f"[{'1,' * (LARGE // 20)}1].contains(context.n)"), 0, "p:1:1: policy `policy0`: accepted, level 0"),
     (when("(" * LARGE), 2, "p:1:844: fault: nested too deep: 800 brackets and operators are read"),
-    (when("!" * LARGE), 2, "p:1:844: fault: nested too deep: 800 brackets and operators are read"),
+    (when("!(" * (LARGE // 2)), 2, "p:1:844: fault: nested too deep: 800 brackets and operators are read"),
     (";" * LARGE, 2, "p: fault: 100 faults, so the rest of the file is not read"),
     ('"' + "\\" * LARGE, 2, "p:1:1: fault: `permit` or `forbid` is expected"),
     ("/" * (1 + (1 << 26)), 2, "p:1:1: fault: the text is longer than 64 MiB"),

@@ -12,6 +12,7 @@ mod listed;
 mod mismatches;
 mod numbers;
 mod reached;
+mod times;
 mod unfit;
 mod values;
 mod walks;

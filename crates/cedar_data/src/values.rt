@@ -1,6 +1,7 @@
 // Values of JSON, read as values of Cedar. The schema's type of a value decides between its forms:
 // without a type, an object is a record, unless its key is `__entity` or `__extn`.
 use crate::collected::{Collected, ExtensionText};
+use crate::times::offset;
 use cedar_conformance::values::{Record, Value};
 use cedar_extensions::checks::Constructor;
 use cedar_json::{FormError, FormFault, Key, Object, ValueKind, entity_uid, expected, text_of};
@@ -11,6 +12,9 @@ use std::rc::RcStr;
 
 /// The expected function names, for the fault of any other name.
 const CONSTRUCTOR: &str = "`ip`, `decimal`, `datetime` or `duration`";
+
+/// The function by which Cedar writes each `datetime`: a point in time, and a duration behind it.
+const OFFSET: &str = "offset";
 
 /// Reads a value, which has this type by the schema.
 #[cycle(read_values)]
@@ -147,15 +151,77 @@ fn read_entity(
 }
 
 /// Reads a call of a constructor of extension values, on a text as `arg`, or as the only item of
-/// `args`.
+/// `args`; or a call of `offset` on two of them.
 fn read_call(collected: &mut Collected<'_>, call: Object<'_>) -> Result<Value, FormError> {
     call.allow(&["fn", "arg", "args"])?;
     let function = call.need("fn")?;
-    let Some(constructor) = Constructor::from_name(text_of(function)?) else {
+    let name = text_of(function)?;
+    if name == OFFSET {
+        return read_offset(collected, call);
+    }
+    let Some(constructor) = Constructor::from_name(name) else {
         return Err(expected(function, CONSTRUCTOR));
     };
     let argument = argument_of(call)?;
-    let text = RcStr::from_str(collected.alloc, text_of(argument)?)?;
+    extension_of(collected, argument, constructor, text_of(argument)?)
+}
+
+/// Reads the call of `offset` on a `datetime` and a `duration`, as the `datetime` that it makes.
+fn read_offset(collected: &mut Collected<'_>, call: Object<'_>) -> Result<Value, FormError> {
+    call.allow(&["fn", "args"])?;
+    let arguments = call.need("args")?;
+    let items = match &arguments.kind {
+        ValueKind::Array(items) => items.as_slice(),
+        _ => return Err(expected(arguments, "a list")),
+    };
+    let [datetime, duration] = items else {
+        return Err(expected(arguments, "a `datetime` and a `duration`"));
+    };
+    let datetime = argument_for(datetime, Constructor::Datetime, "a `datetime`")?;
+    let duration = argument_for(duration, Constructor::Duration, "a `duration`")?;
+    let (time, span) = (text_of(datetime)?, text_of(duration)?);
+    if let Some(text) = offset(collected.alloc, time, span)? {
+        return extension_of(collected, datetime, Constructor::Datetime, text.as_str());
+    }
+    if Constructor::Datetime.reads(time) && Constructor::Duration.reads(span) {
+        return Err(expected(duration, "a time in the years 0 to 9999"));
+    }
+    // a text that cannot be read is a mistake of its own
+    drop(extension_of(collected, duration, Constructor::Duration, span)?);
+    extension_of(collected, datetime, Constructor::Datetime, time)
+}
+
+/// Returns the argument of a call of this constructor, which stands with `__extn` or without it.
+fn argument_for<'a>(
+    value: &'a cedar_json::Value,
+    constructor: Constructor,
+    wanted: &'static str,
+) -> Result<&'a cedar_json::Value, FormError> {
+    let object = Object::of(value)?;
+    let call = match object.get("__extn") {
+        Some(call) => {
+            object.allow(&["__extn"])?;
+            Object::of(call)?
+        }
+        None => object,
+    };
+    call.allow(&["fn", "arg", "args"])?;
+    let function = call.need("fn")?;
+    if text_of(function)? != constructor.name() {
+        return Err(expected(function, wanted));
+    }
+    argument_of(call)
+}
+
+/// Returns the value that a constructor makes of a text, and lists the text, which stands at the
+/// place of `argument`.
+fn extension_of(
+    collected: &mut Collected<'_>,
+    argument: &cedar_json::Value,
+    constructor: Constructor,
+    text: &str,
+) -> Result<Value, FormError> {
+    let text = RcStr::from_str(collected.alloc, text)?;
     collected.texts.push(ExtensionText {
         place: argument.place,
         constructor,

@@ -28,6 +28,18 @@ pub(crate) fn hint(written: Written, trouble: Trouble, read: &str) -> &'static s
             "the schema is the first file, and policies come behind it"
         }
         (Written::Policies, _) if is_expected => hint_in_policy(trouble, read),
+        (Written::Policies, _) => hint_for_words(trouble),
+        _ => "",
+    }
+}
+
+/// The hint at a word that the language keeps, or at operators before an operand.
+fn hint_for_words(trouble: Trouble) -> &'static str {
+    match trouble {
+        Trouble::Other(Fault::ReservedAttribute) => {
+            "it stands as `a[\"b\"]`, `a has \"b\"` or `{\"b\": 1}`"
+        }
+        Trouble::Other(Fault::MixedSigns) => "a parenthesis stands between them, as in `!(-a < b)`",
         _ => "",
     }
 }
@@ -57,6 +69,14 @@ fn hint_in_policy(trouble: Trouble, read: &str) -> &'static str {
 fn hint_by_place(trouble: Trouble, read: &str) -> &'static str {
     let is_text = read.starts_with('"');
     match (trouble, read) {
+        (Trouble::Other(Fault::Expected(Expected::Id)), _) => {
+            "ids stand as `User::\"ann\"`, attributes as `a.b`"
+        }
+        (Trouble::Other(Fault::Expected(Expected::ActionId)), _) => "as in `Action::\"view\"`",
+        (Trouble::Other(Fault::Expected(Expected::Slot)), _) => {
+            "there are the slots `?principal` and `?resource`, without a blank in them"
+        }
+        (Trouble::Missing("::"), _) => "an id stands as `User::\"ann\"`",
         (Trouble::Other(Fault::Expected(Expected::Effect)), "{" | "[") => JSON,
         (Trouble::Other(Fault::Expected(Expected::Name)), "[") => {
             "only behind `action in` may a list stand"

@@ -102,7 +102,7 @@ fn explain_call(
         Some(first) => text_at(text, first.loc).unwrap_or("a"),
         None => "a",
     };
-    if is_called_as_function(text, place, name) {
+    if is_called_as_function(text, place, arguments.as_slice()) {
         if is_method(name) {
             let dots = if arguments.len() > 1 { ".." } else { "" };
             let message = format!(in alloc; "`{name}` is a method: `{shown}.{name}({dots})`")?;
@@ -114,16 +114,16 @@ fn explain_call(
     Ok(None)
 }
 
-/// Whether the name of a call stands before all of its arguments.
-fn is_called_as_function(text: &str, place: Option<Loc>, name: &str) -> bool {
+/// Whether a call was written as a function, `f(a)`, and not as a method, `a.f()`. The places tell
+/// it, whatever blanks and comments stand in the call: a method's call begins with its base, or
+/// with a parenthesis around the base.
+fn is_called_as_function(text: &str, place: Option<Loc>, arguments: &[Expr]) -> bool {
     let Some(place) = place else {
         return true;
     };
-    match text
-        .get(place.start..)
-        .and_then(|rest| rest.strip_prefix(name))
-    {
-        Some(rest) => rest.trim_start().starts_with('('),
-        None => false,
+    let base = arguments.first().and_then(|base: &Expr| base.loc);
+    if base.map(|base: Loc| base.start) == Some(place.start) {
+        return false;
     }
+    !text.get(place.start..).unwrap_or("").starts_with('(')
 }

@@ -45,6 +45,9 @@ pub fn hint_for_error(
         ValidationError::UndefinedFunction(found) => {
             calls::hint_for_function(alloc, policy, text, found)
         }
+        ValidationError::FunctionArgumentValidation(found) => {
+            calls::hint_for_unread(alloc, policy, found.source_loc)
+        }
         _ => String::from_str(alloc, plain_hint(error)),
     }
 }

@@ -1,8 +1,9 @@
 // Annotations of policies and declarations: `@key("value")`.
 use crate::cursor::Cursor;
-use crate::faults::ReadError;
+use crate::faults::{Fault, ReadError};
 use crate::texts::text;
 use cedar_types::base::Loc;
+use std::collections::BTreeSet;
 
 /// An annotation: `@key("value")`, or `@key`, whose value is empty.
 #[derive(Debug, Drop)]
@@ -13,18 +14,24 @@ pub struct Annotation {
     pub place: Loc,
 }
 
-/// Reads any number of annotations and adds each to `annotations`.
+/// Reads any number of annotations and adds each to `annotations`. It fails with `Fault::SameKey`
+/// at a key that comes twice.
 pub fn add_annotations(
     cursor: &mut Cursor<'_>,
     annotations: &mut Vec<Annotation>,
 ) -> Result<(), ReadError> {
     let alloc = cursor.alloc;
+    let mut keys = BTreeSet::new(alloc);
     for _ in 0..cursor.most_left() {
         let start = cursor.start();
         if !cursor.takes("@") {
             break;
         }
+        let word = cursor.peek();
         let key = String::from_str(alloc, cursor.word()?)?;
+        if !keys.insert(word.text)? {
+            return Err(ReadError::At(word.place.start, Fault::SameKey));
+        }
         let value = annotation_value(cursor)?;
         let place = cursor.since(start);
         annotations.push(Annotation { key, value, place })?;

@@ -2,7 +2,7 @@
 // call, the entries of a record.
 use crate::cursor::Cursor;
 use crate::faults::{Fault, ReadError};
-use crate::members::{call, key, method_call};
+use crate::members::{attribute, call, method_call};
 use crate::parts::{Part, part_since};
 use cedar_types::base::{Expr, Name};
 use std::collections::BTreeMap;
@@ -100,7 +100,7 @@ impl Key {
     /// Reads a key and the `:` behind it.
     pub fn read(cursor: &mut Cursor<'_>) -> Result<Key, ReadError> {
         let start = cursor.start();
-        let name = key(cursor)?;
+        let name = attribute(cursor)?;
         cursor.expect(":")?;
         Ok(Key { name, start })
     }

@@ -204,6 +204,11 @@ impl<'a> Cursor<'a> {
         }
     }
 
+    /// Whether the next token stands right behind the last one.
+    pub fn is_joined(&self) -> bool {
+        self.end == self.next.place.start
+    }
+
     /// Whether a line break stands between the last token and the next one.
     pub fn begins_line(&self) -> bool {
         let before = self.text.get(self.end..self.next.place.start).unwrap_or("");

@@ -3,10 +3,13 @@
 use crate::brackets::{Fields, List, ListOf};
 use crate::cursor::{Cursor, MAX_GRAMMAR_STEPS};
 use crate::faults::{Expected, Fault, ReadError};
-use crate::members::{Beginning, beginning_with_word, has, literal, negative_number, slot};
+use crate::members::{
+    Beginning, attribute_word, beginning_with_word, has, literal, negative_number, slot,
+};
 use crate::names::entity_type;
 use crate::open_parts::{
-    Next, Open, Prefix, begin, close, close_whole, innermost_level, next_member, next_value,
+    Next, Open, Prefix, begin, check_prefix, close, close_whole, innermost_level, next_member,
+    next_value,
 };
 use crate::operators::{Level, Operator, next_operator};
 use crate::parts::{Part, leaf_since, part_since};
@@ -73,10 +76,12 @@ fn begin_with_mark(
 ) -> Result<Next, ReadError> {
     match mark {
         "!" => {
+            check_prefix(cursor, open, Prefix::Not)?;
             cursor.take();
             begin(open, Open::Prefix(Prefix::Not, start))
         }
         "-" => {
+            check_prefix(cursor, open, Prefix::Minus)?;
             cursor.take();
             behind_minus(cursor, open, start)
         }
@@ -223,7 +228,7 @@ fn with_point(
     base: Part,
 ) -> Result<Next, ReadError> {
     let at = cursor.start();
-    let name = cursor.word()?;
+    let name = attribute_word(cursor)?;
     let start = base.covers.start;
     if cursor.takes("(") {
         let name = RcStr::from_str(cursor.alloc, name)?;

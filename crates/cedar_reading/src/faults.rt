@@ -17,9 +17,15 @@ pub enum Expected {
     /// A condition of a policy, or the policy's end.
     #[error("`when`, `unless` or `;`")]
     Condition,
-    /// The variable of a slot, behind its `?`.
+    /// The variable of a slot, right behind its `?`.
     #[error("`principal` or `resource`")]
     Slot,
+    /// The text of an entity's id, behind the name of its type.
+    #[error("an id in quotes")]
+    Id,
+    /// The id of an action, with its type.
+    #[error("the id of an action")]
+    ActionId,
     #[error("no argument")]
     NoArgument,
     #[error("one argument")]
@@ -98,6 +104,14 @@ pub enum Fault {
     UnknownType,
     #[error("a name that the language keeps for itself")]
     Reserved,
+    /// A reserved word stands without quotes in the place of an attribute.
+    #[error("an attribute without quotes that is a word of the language")]
+    ReservedAttribute,
+    /// `!` stands before `-`, or `-` before `!`, without a parenthesis between them.
+    #[error("`!` and `-` side by side")]
+    MixedSigns,
+    #[error("more than four `!` or `-` in a row")]
+    TooManySigns,
     /// Entity types or actions have more descendants together, over any number of steps, than a
     /// schema may have, or more parents.
     #[error("too many descendants")]

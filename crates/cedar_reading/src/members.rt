@@ -1,8 +1,9 @@
 // Small expressions that have no grammar of their own: literals, slots, keys, calls.
 use crate::cursor::{Cursor, MAX_GRAMMAR_STEPS};
 use crate::faults::{Expected, Fault, ReadError};
-use crate::names::{placed_name, uid_of};
+use crate::names::{check_free, no_id, placed_name, uid_of};
 use crate::operators::method;
+use crate::schemas::reserved::is_reserved;
 use crate::texts::text;
 use crate::tokens::TokenKind;
 use cedar_types::base::{AttrChain, Expr, ExprKind, Literal, Name, SlotId, Var};
@@ -24,6 +25,7 @@ pub fn beginning_with_word(cursor: &mut Cursor<'_>) -> Result<Beginning, ReadErr
     let word = cursor.peek().text;
     let read = placed_name(cursor)?;
     if read.is_of_id {
+        check_free(cursor, &read)?;
         let uid = uid_of(cursor, start, read)?;
         return Ok(Beginning::Whole(Expr::val(Literal::EntityUID(uid))));
     }
@@ -31,7 +33,8 @@ pub fn beginning_with_word(cursor: &mut Cursor<'_>) -> Result<Beginning, ReadErr
         return Ok(Beginning::Function(read.name));
     }
     if !read.name.path.is_empty() {
-        return Err(ReadError::At(start, Fault::Expected(Expected::Expression)));
+        check_free(cursor, &read)?;
+        return Err(no_id(cursor, &read));
     }
     let whole = match word {
         "true" => Expr::val(Literal::Bool(true)),
@@ -45,9 +48,11 @@ pub fn beginning_with_word(cursor: &mut Cursor<'_>) -> Result<Beginning, ReadErr
     Ok(Beginning::Whole(whole))
 }
 
-/// Reads the name of a slot, behind its `?`.
+/// Reads the name of a slot, right behind its `?`.
 pub fn slot(cursor: &mut Cursor<'_>) -> Result<Expr, ReadError> {
-    if cursor.takes("principal") {
+    if !cursor.is_joined() {
+        Err(cursor.fault(Fault::Expected(Expected::Slot)))
+    } else if cursor.takes("principal") {
         Ok(Expr::slot(SlotId::Principal))
     } else if cursor.takes("resource") {
         Ok(Expr::slot(SlotId::Resource))
@@ -89,7 +94,26 @@ fn long(text: &str, start: usize) -> Result<Expr, ReadError> {
     }
 }
 
-/// Reads the key of a record's entry, or an attribute: a name, or a text in quotes.
+/// Reads an attribute without quotes, or the name of a method. It fails with
+/// `Fault::ReservedAttribute` at a reserved word.
+pub fn attribute_word<'a>(cursor: &mut Cursor<'a>) -> Result<&'a str, ReadError> {
+    if is_reserved(cursor.peek().text) {
+        return Err(cursor.fault(Fault::ReservedAttribute));
+    }
+    cursor.word()
+}
+
+/// Reads the key of a record's entry, or an attribute: a word that is not reserved, or a text in
+/// quotes.
+pub fn attribute(cursor: &mut Cursor<'_>) -> Result<RcStr, ReadError> {
+    let alloc = cursor.alloc;
+    if cursor.peek().kind == TokenKind::Word {
+        return Ok(RcStr::from_str(alloc, attribute_word(cursor)?)?);
+    }
+    key(cursor)
+}
+
+/// Reads a key of a record type: any word, or a text in quotes.
 pub fn key(cursor: &mut Cursor<'_>) -> Result<RcStr, ReadError> {
     let alloc = cursor.alloc;
     if cursor.peek().kind == TokenKind::Word {
@@ -99,11 +123,15 @@ pub fn key(cursor: &mut Cursor<'_>) -> Result<RcStr, ReadError> {
     Ok(RcStr::from_str(alloc, content.as_str())?)
 }
 
-/// Reads the attribute behind `has`, or several with points between them.
+/// Reads the attribute behind `has`: a text in quotes, or words with points between them.
 pub fn has(cursor: &mut Cursor<'_>, base: Expr) -> Result<Expr, ReadError> {
     let alloc = cursor.alloc;
-    let first = key(cursor)?;
+    let is_text = cursor.peek().kind == TokenKind::Text;
+    let first = attribute(cursor)?;
     cursor.keep_whole_end();
+    if is_text {
+        return Ok(Expr::has_attr(alloc, base, first.as_str())?);
+    }
     let rest = further_attributes(cursor)?;
     if rest.is_empty() {
         return Ok(Expr::has_attr(alloc, base, first.as_str())?);
@@ -119,7 +147,8 @@ fn further_attributes(cursor: &mut Cursor<'_>) -> Result<Vec<RcStr>, ReadError> 
         if !cursor.takes(".") {
             return Ok(attributes);
         }
-        attributes.push(key(cursor)?)?;
+        let word = attribute_word(cursor)?;
+        attributes.push(RcStr::from_str(cursor.alloc, word)?)?;
         cursor.keep_whole_end();
     }
     Err(cursor.fault(Fault::TooDeep))

@@ -1,6 +1,7 @@
 // Names and ids of entities.
 use crate::cursor::Cursor;
-use crate::faults::{Fault, ReadError};
+use crate::faults::{Expected, Fault, ReadError};
+use crate::schemas::reserved::is_reserved;
 use crate::texts::text;
 use crate::tokens::TokenKind;
 use cedar_types::base::{EntityType, EntityUID, Loc, Name};
@@ -46,9 +47,40 @@ pub fn placed_name(cursor: &mut Cursor<'_>) -> Result<PlacedName, ReadError> {
     })
 }
 
+/// Reads a name of a policy. It fails with `Fault::Reserved` at a reserved word in the name.
+pub fn free_name(cursor: &mut Cursor<'_>) -> Result<PlacedName, ReadError> {
+    let read = placed_name(cursor)?;
+    check_free(cursor, &read)?;
+    Ok(read)
+}
+
+/// Fails with `Fault::Reserved` at the first word of the name that is reserved.
+pub fn check_free(cursor: &Cursor<'_>, read: &PlacedName) -> Result<(), ReadError> {
+    let mut words = cursor.at(read.place.start);
+    for _ in 0..=read.name.path.len() {
+        if is_reserved(words.peek().text) {
+            return Err(words.fault(Fault::Reserved));
+        }
+        words.take();
+        words.takes("::");
+    }
+    Ok(())
+}
+
+/// The error of a name in the place of an id: the text of the id has to stand in place of the last
+/// word, or behind the name if it has one word.
+pub fn no_id(cursor: &Cursor<'_>, read: &PlacedName) -> ReadError {
+    if read.name.path.is_empty() {
+        return cursor.fault(Fault::Missing("::"));
+    }
+    let size = read.name.basename.as_str().len();
+    let start = read.place.end.saturating_sub(size);
+    ReadError::At(start, Fault::Expected(Expected::Id))
+}
+
 /// Reads the name of an entity type.
 pub fn entity_type(cursor: &mut Cursor<'_>) -> Result<EntityType, ReadError> {
-    let read = placed_name(cursor)?;
+    let read = free_name(cursor)?;
     Ok(EntityType::new(read.name, Some(read.place)))
 }
 
@@ -67,9 +99,9 @@ pub fn uid_of(
 /// Reads an id: `Type::"eid"`.
 pub fn entity_uid(cursor: &mut Cursor<'_>) -> Result<EntityUID, ReadError> {
     let start = cursor.start();
-    let read = placed_name(cursor)?;
+    let read = free_name(cursor)?;
     if !read.is_of_id {
-        return Err(cursor.fault(Fault::Missing("::")));
+        return Err(no_id(cursor, &read));
     }
     uid_of(cursor, start, read)
 }

@@ -8,7 +8,7 @@ use crate::parts::{Part, in_parentheses, part_since};
 use cedar_types::base::{EntityType, Expr};
 
 /// An operator before its operand.
-#[derive(Clone, Copy)]
+#[derive(Clone, Copy, PartialEq, Eq)]
 pub enum Prefix {
     Not,
     Minus,
@@ -34,6 +34,9 @@ pub enum Open {
     Record(Fields, Key),
 }
 
+/// The most operators before one operand.
+const MAX_PREFIXES: usize = 4;
+
 /// The kind of text to read next.
 #[derive(Drop)]
 pub enum Next {
@@ -50,6 +53,23 @@ pub enum Next {
 pub fn begin(open: &mut Vec<Open>, what: Open) -> Result<Next, ReadError> {
     open.push(what)?;
     Ok(Next::Operand)
+}
+
+/// Fails if the operator `prefix` must not stand here: behind the other one, or behind four of its
+/// kind.
+pub fn check_prefix(cursor: &Cursor<'_>, open: &[Open], prefix: Prefix) -> Result<(), ReadError> {
+    let mut count = 0usize;
+    for part in open.iter().rev() {
+        match part {
+            Open::Prefix(before, _) if *before == prefix => count = count.saturating_add(1),
+            Open::Prefix(_, _) => return Err(cursor.fault(Fault::MixedSigns)),
+            _ => break,
+        }
+    }
+    if count >= MAX_PREFIXES {
+        return Err(cursor.fault(Fault::TooManySigns));
+    }
+    Ok(())
 }
 
 /// The strength with which the innermost begun part binds the next operand.

@@ -31,10 +31,10 @@ impl PolicyParts {
         }
     }
 
-    /// The id of the policy with `number` policies before it: the value of `@id` (the last one, if
-    /// it stands twice), or `policy` and the number.
+    /// The id of the policy with `number` policies before it: the value of `@id`, or `policy` and
+    /// the number.
     pub fn id(&self, alloc: Global, number: usize) -> Result<PolicyID, AllocError> {
-        for annotation in self.annotations.iter().rev() {
+        for annotation in &self.annotations {
             if annotation.key.as_str() == "id" {
                 return PolicyID::from_string(alloc, annotation.value.as_str());
             }

@@ -17,7 +17,7 @@ mod meant_declarations;
 mod meant_types;
 mod recovery;
 mod refusals;
-mod reserved;
+pub mod reserved;
 mod shadows;
 mod types;
 mod unsure;

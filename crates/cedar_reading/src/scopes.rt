@@ -1,8 +1,9 @@
 // Policies: their scopes, and perhaps a condition.
-use crate::cursor::Cursor;
+use crate::cursor::{Cursor, MAX_GRAMMAR_STEPS};
 use crate::expressions::expression;
 use crate::faults::{Expected, Fault, ReadError};
-use crate::names::{entity_type, entity_uid, placed_name};
+use crate::names::{entity_type, entity_uid, free_name};
+use crate::tokens::TokenKind;
 use cedar_types::base::{
     ActionConstraint, Effect, EntityReference, EntityUID, Expr, Name, PolicyID,
     PrincipalConstraint, PrincipalOrResourceConstraint, ResourceConstraint, Template,
@@ -123,43 +124,93 @@ fn entity_constraint(
     Ok(PrincipalOrResourceConstraint::IsIn(named, reference))
 }
 
-/// Reads an id, or the slot of this variable.
+/// Reads an id, or the slot of this variable. Parentheses may stand around it.
 fn reference(
     cursor: &mut Cursor<'_>,
     variable: &'static str,
 ) -> Result<EntityReference, ReadError> {
-    if cursor.takes("?") {
-        cursor.expect(variable)?;
-        return Ok(EntityReference::Slot);
+    let parentheses = opened(cursor)?;
+    let reference = if cursor.takes("?") {
+        slot_of(cursor, variable)?;
+        EntityReference::Slot
+    } else {
+        EntityReference::EUID(entity_uid(cursor)?)
+    };
+    close(cursor, parentheses)?;
+    Ok(reference)
+}
+
+/// Reads the variable of a slot, right behind its `?`.
+fn slot_of(cursor: &mut Cursor<'_>, variable: &'static str) -> Result<(), ReadError> {
+    let is_slot = cursor.is_at("principal") || cursor.is_at("resource");
+    if !is_slot || !cursor.is_joined() {
+        return Err(cursor.fault(Fault::Expected(Expected::Slot)));
     }
-    Ok(EntityReference::EUID(entity_uid(cursor)?))
+    cursor.expect(variable)
+}
+
+/// Reads any number of opening parentheses, and returns how many there are.
+fn opened(cursor: &mut Cursor<'_>) -> Result<usize, ReadError> {
+    for count in 0..MAX_GRAMMAR_STEPS {
+        if !cursor.takes("(") {
+            return Ok(count);
+        }
+    }
+    Err(cursor.fault(Fault::TooDeep))
+}
+
+/// Reads this number of closing parentheses.
+fn close(cursor: &mut Cursor<'_>, parentheses: usize) -> Result<(), ReadError> {
+    for _ in 0..parentheses {
+        cursor.expect(")")?;
+    }
+    Ok(())
 }
 
 /// Reads the constraint of the action, after its name.
 fn action_constraint(cursor: &mut Cursor<'_>) -> Result<ActionConstraint, ReadError> {
     cursor.expect("action")?;
     if cursor.takes("==") {
-        return Ok(ActionConstraint::Eq(entity_uid(cursor)?));
+        return Ok(ActionConstraint::Eq(action(cursor)?));
     }
     if !cursor.takes("in") {
         return Ok(ActionConstraint::Any);
     }
-    if cursor.takes("[") {
-        return Ok(ActionConstraint::In(entity_uids(cursor)?));
-    }
-    let mut actions = Vec::new(cursor.alloc);
-    actions.push(entity_uid(cursor)?)?;
+    let parentheses = opened(cursor)?;
+    let actions = action_or_list(cursor)?;
+    close(cursor, parentheses)?;
     Ok(ActionConstraint::In(actions))
 }
 
+/// Reads an action, or actions in brackets.
+fn action_or_list(cursor: &mut Cursor<'_>) -> Result<Vec<EntityUID>, ReadError> {
+    if cursor.takes("[") {
+        return listed_actions(cursor);
+    }
+    let mut actions = Vec::new(cursor.alloc);
+    actions.push(action(cursor)?)?;
+    Ok(actions)
+}
+
+/// Reads the id of an action. Parentheses may stand around it.
+fn action(cursor: &mut Cursor<'_>) -> Result<EntityUID, ReadError> {
+    let parentheses = opened(cursor)?;
+    if cursor.peek().kind == TokenKind::Text {
+        return Err(cursor.fault(Fault::Expected(Expected::ActionId)));
+    }
+    let uid = entity_uid(cursor)?;
+    close(cursor, parentheses)?;
+    Ok(uid)
+}
+
 /// Reads ids with commas between them, and the bracket behind the last.
-fn entity_uids(cursor: &mut Cursor<'_>) -> Result<Vec<EntityUID>, ReadError> {
+fn listed_actions(cursor: &mut Cursor<'_>) -> Result<Vec<EntityUID>, ReadError> {
     let mut uids = Vec::new(cursor.alloc);
     for _ in 0..cursor.most_left() {
         if cursor.takes("]") {
             break;
         }
-        uids.push(entity_uid(cursor)?)?;
+        uids.push(action(cursor)?)?;
         if !cursor.takes(",") {
             cursor.expect("]")?;
             break;
@@ -187,10 +238,11 @@ pub fn scope_alone(alloc: Global, text: &str) -> Result<Scope, ReadError> {
 /// Reads a text that is a name and nothing else, words with `::` between them: `User` or
 /// `Acme::User`. The name has no place.
 ///
-/// It fails if the text cannot be read, also if it is an id, and if memory is refused.
+/// It fails if the text cannot be read, also if it is an id or has a reserved word, and if memory
+/// is refused.
 pub fn name_alone(alloc: Global, text: &str) -> Result<Name, ReadError> {
     let mut cursor = Cursor::new(alloc, text)?;
-    let read = placed_name(&mut cursor)?;
+    let read = free_name(&mut cursor)?;
     finish(&cursor)?;
     Ok(read.name)
 }

@@ -5,9 +5,14 @@ use crate::tokens::TokenKind;
 use cedar_types::base::PatternElem;
 use std::alloc::Global;
 
-/// Reads a text in quotes, and returns its content.
+/// Reads a text in quotes, and returns its content. It fails with `Fault::Text` at `\*` too, which
+/// only a pattern may have.
 pub fn text(cursor: &mut Cursor<'_>) -> Result<String, ReadError> {
     let alloc = cursor.alloc;
+    let token = cursor.peek();
+    if token.kind == TokenKind::Text && has_escaped_star(token.text) {
+        return Err(cursor.fault(Fault::Text));
+    }
     let mut plain = String::new(alloc);
     for part in pattern(cursor)? {
         match part {
@@ -16,6 +21,18 @@ pub fn text(cursor: &mut Cursor<'_>) -> Result<String, ReadError> {
         }
     }
     Ok(plain)
+}
+
+/// Whether a backslash stands before a `*`, and does not itself belong to a `\\`.
+fn has_escaped_star(text: &str) -> bool {
+    let mut is_escaped = false;
+    for c in text.chars() {
+        if is_escaped && c == '*' {
+            return true;
+        }
+        is_escaped = c == '\\' && !is_escaped;
+    }
+    false
 }
 
 /// Reads a pattern in quotes: a `*` is a wildcard, and `\*` the character.

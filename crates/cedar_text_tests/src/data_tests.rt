@@ -4,6 +4,7 @@ mod closures;
 mod entities;
 mod entries;
 mod forms;
+mod offsets;
 mod parents;
 mod parts;
 mod requests;

@@ -1,4 +1,5 @@
 // Readings of policies with faults, and of schemas. Each subject has a module.
+mod blanks;
 mod faulty_policies;
 mod schemas_once;
 mod shown;

@@ -1,10 +1,10 @@
 // Hints against calls of undefined functions.
 use crate::parts::{arguments_at, text_at};
 use crate::similar::Search;
-use cedar_extensions::checks::CONSTRUCTORS;
+use cedar_extensions::checks::{CONSTRUCTORS, Constructor};
 use cedar_extensions::functions::{is_constructor, is_method};
 use cedar_extensions::methods::METHODS as EXTENSION_METHODS;
-use cedar_types::base::{Expr, ExprKind, Literal, Name, Template, UndefinedFunction};
+use cedar_types::base::{Expr, ExprKind, Literal, Loc, Name, Template, UndefinedFunction};
 use std::alloc::{AllocError, Global};
 
 /// The methods of the language itself.
@@ -82,6 +82,25 @@ fn hint_for_method(
         _ if name == "isEmpty" => String::from_str(alloc, "it is a method, as in `a.isEmpty()`"),
         _ => format!(in alloc; "it is a method, as in `a.{name}(b)`"),
     }
+}
+
+/// The hint against the call at a place, whose function cannot read its text: the zone of a time may be missing.
+pub fn hint_for_unread(
+    alloc: Global,
+    policy: &Template,
+    place: Option<Loc>,
+) -> Result<String, AllocError> {
+    let [argument] = arguments_at(alloc, policy, place)?.unwrap_or(&[]) else {
+        return Ok(String::new(alloc));
+    };
+    let ExprKind::Lit(Literal::String(literal)) = &argument.kind else {
+        return Ok(String::new(alloc));
+    };
+    let in_utc = format!(in alloc; "{literal}Z")?;
+    if !Constructor::Datetime.reads(in_utc.as_str()) {
+        return Ok(String::new(alloc));
+    }
+    format!(in alloc; "a time of the day has its zone behind it: `datetime(\"{in_utc}\")`")
 }
 
 /// The way to look into a text that a function of this name gives in other languages.

@@ -7,7 +7,13 @@ use std::rc::RcStr;
 /// The most ids of an enumerated type that are listed: few, so that the hint stays in one line.
 const MAX_IDS_LISTED: usize = 5;
 
-/// The declared type with the nearest name, in any namespace.
+/// The most entity types or actions of a schema that are listed.
+const MAX_NAMES_LISTED: usize = 6;
+
+/// The words before the entity types or actions of a schema.
+const BEFORE_NAMES: &str = "the schema declares ";
+
+/// The declared type with the nearest name, in any namespace; or all types, if there are few.
 pub fn hint_for_type(
     alloc: Global,
     schema: &ValidatorSchema,
@@ -26,12 +32,12 @@ pub fn hint_for_type(
     }
     match nearest {
         Some(name) => format!(in alloc; "did you mean `{name}`?"),
-        None => Ok(String::new(alloc)),
+        None => list_types(alloc, schema),
     }
 }
 
-/// The declared action with the nearest id, in any namespace. If the id begins with the text of a type, only the rest is
-/// compared.
+/// The declared action with the nearest id, in any namespace; or all actions, if there are few. If the id begins with the text
+/// of a type, only the rest is compared.
 pub fn hint_for_action(
     alloc: Global,
     schema: &ValidatorSchema,
@@ -50,8 +56,34 @@ pub fn hint_for_action(
     }
     match nearest {
         Some(name) => format!(in alloc; "did you mean `{name}`?"),
-        None => Ok(String::new(alloc)),
+        None => list_actions(alloc, schema),
     }
+}
+
+/// All entity types of a schema, if they are few; else an empty text.
+fn list_types(alloc: Global, schema: &ValidatorSchema) -> Result<String, AllocError> {
+    let mut hint = String::new(alloc);
+    for (number, name) in schema.entity_type_names(alloc)?.iter().enumerate() {
+        if number >= MAX_NAMES_LISTED {
+            return Ok(String::new(alloc));
+        }
+        let before = if number == 0 { BEFORE_NAMES } else { ", " };
+        write!(hint, "{before}`{name}`")?;
+    }
+    Ok(hint)
+}
+
+/// All actions of a schema, if they are few; else an empty text.
+fn list_actions(alloc: Global, schema: &ValidatorSchema) -> Result<String, AllocError> {
+    let mut hint = String::new(alloc);
+    for (number, action) in schema.action_ids(alloc)?.iter().enumerate() {
+        if number >= MAX_NAMES_LISTED {
+            return Ok(String::new(alloc));
+        }
+        let before = if number == 0 { BEFORE_NAMES } else { ", " };
+        write!(hint, "{before}`{}`", action.name)?;
+    }
+    Ok(hint)
 }
 
 /// The id in a text such as `Action::"view"` or `Action::view`.

@@ -5,7 +5,7 @@ use crate::parts::{Operation, operation_at, operation_in, part_around, text_at};
 use cedar_extensions::checks::Constructor;
 use cedar_types::base::{
     BinaryOp, CedarType, EntityKind, Expr, ExprKind, IncompatibleTypes, Literal, LubContext,
-    Template, UnexpectedType,
+    Template, UnaryOp, UnexpectedType,
 };
 use std::alloc::{AllocError, Global};
 
@@ -22,7 +22,12 @@ pub fn hint_for_unexpected(
     if let ExprKind::HasAttr(base, attribute) = &around.kind {
         return hint_for_has(alloc, text, base, attribute.as_str(), &found.actual);
     }
-    if let ExprKind::UnaryApp(_, _) = &around.kind {
+    if let ExprKind::UnaryApp(operator, operand) = &around.kind {
+        if matches!(operator, UnaryOp::Not) {
+            if let Some(hint) = hint_for_not(alloc, policy, text, around, operand)? {
+                return Ok(hint);
+            }
+        }
         return String::from_str(alloc, hint_for_one_operand(&found.actual));
     }
     match operation_in(around) {
@@ -45,6 +50,29 @@ fn hint_for_has(
     let base = text_at(text, base.loc).unwrap_or("a");
     let attribute = if is_plain(attribute) { attribute } else { "b" };
     format!(in alloc; "`contains` looks into a set: `{base}.contains(\"{attribute}\")`")
+}
+
+/// The hint against `!a == b`, in which `!` binds stronger than `==`.
+fn hint_for_not(
+    alloc: Global,
+    policy: &Template,
+    text: &str,
+    negation: &Expr,
+    operand: &Expr,
+) -> Result<Option<String>, AllocError> {
+    let Some(around) = part_around(alloc, policy, negation.loc)? else {
+        return Ok(None);
+    };
+    let operands = match operation_in(around) {
+        Some(it) if it.operator == BinaryOp::Eq && it.left.loc == negation.loc => {
+            (text_at(text, operand.loc), text_at(text, it.right.loc))
+        }
+        _ => return Ok(None),
+    };
+    let (Some(left), Some(right)) = operands else {
+        return Ok(None);
+    };
+    Ok(Some(format!(in alloc; "`!` negates `{left}` alone: did you mean `{left} != {right}`?")?))
 }
 
 fn hint_for_one_operand(actual: &CedarType) -> &'static str {
@@ -133,7 +161,7 @@ fn hint_for_in(
     let left = text_at(text, operation.left.loc);
     let right = text_at(text, operation.right.loc);
     match (left, right) {
-        (Some(left), Some(right)) if is_value(operation.left) && (is_left || is_set(actual)) => {
+        (Some(left), Some(right)) if looks_for_value(operation, is_left, actual) => {
             format!(in alloc; "`contains` looks into a set: `{right}.contains({left})`")
         }
         _ if is_set(actual) => {
@@ -146,6 +174,16 @@ fn hint_for_in(
             )
         }
         _ => Ok(String::new(alloc)),
+    }
+}
+
+/// Whether an operation with `in` seems to look for a value in a set: for a literal, or in a set of listed values.
+fn looks_for_value(operation: Operation<'_>, is_left: bool, actual: &CedarType) -> bool {
+    let is_listed = matches!(operation.right.kind, ExprKind::Set(_));
+    match &operation.left.kind {
+        ExprKind::Var(_) => false,
+        ExprKind::GetAttr(_, _) if is_listed => is_left || is_set(actual),
+        _ => is_value(operation.left) && (is_left || is_set(actual)),
     }
 }
 

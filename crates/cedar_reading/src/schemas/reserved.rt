@@ -19,7 +19,8 @@ pub fn free_alias<'a>(cursor: &mut Cursor<'a>) -> Result<&'a str, ReadError> {
     free_word(cursor)
 }
 
-fn is_reserved(word: &str) -> bool {
+/// Whether the language keeps this word for itself.
+pub fn is_reserved(word: &str) -> bool {
     matches!(
         word,
         "true" | "false" | "if" | "then" | "else" | "in" | "is" | "like" | "has" | "__cedar"

@@ -1,24 +1,25 @@
 // The rows that are built, by their names.
 use crate::rows::{NamedRow, Nested, Steps, conditions, dereferences, policies};
 
-/// `true` under negations, at the limit of depth and beyond it.
+/// `true` under negations, at the limit of depth and beyond it. The parentheses make no node: at
+/// most four negations may stand side by side.
 const NEGATIONS: [Nested; 3] = [
     Nested {
         word: "TRUE_UNDER_398",
-        around: ["!", ""],
-        times: 398,
+        around: ["!!(", ")"],
+        times: 199,
         inner: "true",
     },
     Nested {
         word: "TRUE_UNDER_399",
-        around: ["!", ""],
-        times: 399,
-        inner: "true",
+        around: ["!!(", ")"],
+        times: 199,
+        inner: "!true",
     },
     Nested {
         word: "TRUE_UNDER_450",
-        around: ["!", ""],
-        times: 450,
+        around: ["!!(", ")"],
+        times: 225,
         inner: "true",
     },
 ];

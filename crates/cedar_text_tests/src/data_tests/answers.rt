@@ -43,7 +43,7 @@ fn entities_as_they_stand(rt: HostRuntime) -> Result<(), Fail> {
 }
 
 /// The stored parts of an entity of a text.
-fn stored_shown(alloc: Global, text: &str, id: &str) -> Result<String, AllocError> {
+pub fn stored_shown(alloc: Global, text: &str, id: &str) -> Result<String, AllocError> {
     let schema = test_schema(alloc);
     let checked = check_entities_text(alloc, &schema, text);
     let (Ok(checked), Ok(id)) = (checked, uid_alone(alloc, id)) else {

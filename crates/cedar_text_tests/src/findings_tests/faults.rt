@@ -9,7 +9,7 @@ use std::test::Fail;
 const BEFORE: &str = "permit(principal, action, resource)\nwhen { ";
 
 /// Conditions behind `BEFORE`, with the rest of the text.
-const CONDITIONS: [(&str, &str); 26] = [
+const CONDITIONS: [(&str, &str); 43] = [
     (
         "user.a };",
         "2:8: an expression is expected, where `user` is read; there are `principal`, `action`, \
@@ -116,6 +116,65 @@ const CONDITIONS: [(&str, &str); 26] = [
         "[1, 2).isEmpty() };",
         "2:13: `]` is expected, where `)` is read",
     ),
+    (
+        "principal has \"a\".b };",
+        "2:25: `}` is expected, where `.` is read",
+    ),
+    (
+        "principal has a.if };",
+        "2:24: an attribute without quotes that is a word of the language, where `if` is read; it stands as `a[\"b\"]`, `a has \"b\"` or `{\"b\": 1}`",
+    ),
+    (
+        "!-principal.a };",
+        "2:9: `!` and `-` side by side, where `-` is read; a parenthesis stands between them, as in `!(-a < b)`",
+    ),
+    (
+        "-!principal.a };",
+        "2:9: `!` and `-` side by side, where `!` is read; a parenthesis stands between them, as in `!(-a < b)`",
+    ),
+    (
+        "- - - - -5 == 1 };",
+        "2:16: more than four `!` or `-` in a row, where `-5` is read",
+    ),
+    ("- - - -5 == 1 && !!!!(-1 == 1) };", "no fault"),
+    ("-5.x == 1 && - // five\n5[\"x\"] == -5 };", "no fault"),
+    (
+        "principal.if };",
+        "2:18: an attribute without quotes that is a word of the language, where `if` is read; it stands as `a[\"b\"]`, `a has \"b\"` or `{\"b\": 1}`",
+    ),
+    (
+        "principal.in() };",
+        "2:18: an attribute without quotes that is a word of the language, where `in` is read; it stands as `a[\"b\"]`, `a has \"b\"` or `{\"b\": 1}`",
+    ),
+    (
+        "principal has in };",
+        "2:22: an attribute without quotes that is a word of the language, where `in` is read; it stands as `a[\"b\"]`, `a has \"b\"` or `{\"b\": 1}`",
+    ),
+    (
+        "{a: 1, like: 1} == context };",
+        "2:15: an attribute without quotes that is a word of the language, where `like` is read; it stands as `a[\"b\"]`, `a has \"b\"` or `{\"b\": 1}`",
+    ),
+    (
+        "{\"if\": 1}[\"if\"] == 1 && context has \"in\" };",
+        "no fault",
+    ),
+    (
+        "\"\\*\" == \"a\" };",
+        "2:8: an escape that there is not: there are \\\" \\\\ \\' \\n \\r \\t \\0 \\x41 \\u{41}, where `\"\\*\"` is read",
+    ),
+    ("\"a\\\\*\" like \"*\\*\\\\*\" };", "no fault"),
+    (
+        "principal == User::alice };",
+        "2:27: an id in quotes is expected, where `alice` is read; ids stand as `User::\"ann\"`, attributes as `a.b`",
+    ),
+    (
+        "principal is in };",
+        "2:21: a name that the language keeps for itself, where `in` is read",
+    ),
+    (
+        "in::\"a\" == principal };",
+        "2:8: a name that the language keeps for itself, where `in` is read",
+    ),
 ];
 
 /// The fault of the first policy, which has this condition.
@@ -130,7 +189,7 @@ fn conditions(rt: HostRuntime) -> Result<(), Fail> {
 }
 
 /// Whole policies.
-const POLICIES: [(&str, &str); 13] = [
+const POLICIES: [(&str, &str); 27] = [
     (
         "allow(principal);",
         "1:1: `permit` or `forbid` is expected, where `allow` is read",
@@ -166,7 +225,7 @@ const POLICIES: [(&str, &str); 13] = [
     ),
     (
         "permit(principal == User, action, resource);",
-        "1:25: `::` is expected, where `,` is read",
+        "1:25: `::` is expected, where `,` is read; an id stands as `User::\"ann\"`",
     ),
     (
         "@id(x) permit(principal);",
@@ -181,6 +240,62 @@ const POLICIES: [(&str, &str); 13] = [
         "1:1: `permit` or `forbid` is expected, where `entity` is read; the schema is the first \
          file, and policies come behind it",
     ),
+    (
+        "permit(principal == User::alice, action, resource);",
+        "1:27: an id in quotes is expected, where `alice` is read; ids stand as `User::\"ann\"`, attributes as `a.b`",
+    ),
+    (
+        "permit(principal == ?user, action, resource);",
+        "1:22: `principal` or `resource` is expected, where `user` is read; there are the slots `?principal` and `?resource`, without a blank in them",
+    ),
+    (
+        "permit(principal == ? principal, action, resource);",
+        "1:23: `principal` or `resource` is expected, where `principal` is read; there are the slots `?principal` and `?resource`, without a blank in them",
+    ),
+    (
+        "permit(principal, action in [\"view\"], resource);",
+        "1:30: the id of an action is expected, where `\"view\"` is read; as in `Action::\"view\"`",
+    ),
+    (
+        "permit(principal is if, action, resource);",
+        "1:21: a name that the language keeps for itself, where `if` is read",
+    ),
+    (
+        "permit(principal == N::in::\"a\", action, resource);",
+        "1:24: a name that the language keeps for itself, where `in` is read",
+    ),
+    (
+        "permit(principal is __cedar::N, action, resource);",
+        "1:21: a name that the language keeps for itself, where `__cedar` is read",
+    ),
+    (
+        "@id(\"a\") @id(\"b\") permit(principal, action, resource);",
+        "1:11: the same key twice, where `id` is read",
+    ),
+    (
+        "@if(\"a\") @in permit(principal, action, resource);",
+        "no fault",
+    ),
+    (
+        "permit(principal == (User::\"a\"), action in ([(Action::\"a\"), Action::\"b\"]), resource in ((?resource)));",
+        "no fault",
+    ),
+    (
+        "permit(principal is User in (?principal), action == ((Action::\"a\")), resource);",
+        "no fault",
+    ),
+    (
+        "permit(principal in ([User::\"a\"]), action, resource);",
+        "1:22: a name is expected, where `[` is read; only behind `action in` may a list stand",
+    ),
+    (
+        "permit(principal is (User), action, resource);",
+        "1:21: a name is expected, where `(` is read",
+    ),
+    (
+        "permit(principal == (User::\"a\", action, resource);",
+        "1:31: `)` is expected, where `,` is read",
+    ),
 ];
 
 #[test]
@@ -191,7 +306,7 @@ fn policies(rt: HostRuntime) -> Result<(), Fail> {
 /// A text and its number of repetitions, the text in the middle, the text that closes each repetition, and the fault. At most
 /// 800 brackets and operators may be begun, so 400 parentheses with an operator in each; and 800 nodes may stand inside each
 /// other.
-const NESTED: [(&str, usize, &str, &str, &str); 8] = [
+const NESTED: [(&str, usize, &str, &str, &str); 11] = [
     ("(", 799, "true", ")", "no fault"),
     ("(", 800, "true", ")", TOO_DEEP_AT_TRUE),
     ("(true || ", 399, "true", ")", "no fault"),
@@ -204,7 +319,16 @@ const NESTED: [(&str, usize, &str, &str, &str); 8] = [
          where `true` is read",
     ),
     ("(", 400, "true", " || true)", "no fault"),
-    ("!", 799, "true", "", "no fault"),
+    ("!!!!(", 159, "!!!!true", ")", "no fault"),
+    ("!!!!(", 160, "true", ")", TOO_DEEP_AT_TRUE),
+    ("!", 4, "true", "", "no fault"),
+    (
+        "!",
+        5,
+        "true",
+        "",
+        "2:12: more than four `!` or `-` in a row, where `!` is read",
+    ),
     ("[", 799, "1", "]", "no fault"),
     ("", 799, "true", " || true", "no fault"),
 ];
@@ -232,6 +356,43 @@ fn nesting(rt: HostRuntime) -> Result<(), Fail> {
             *wanted,
             "for {count} times {before} .. {behind}"
         );
+    }
+    Ok(())
+}
+
+/// Texts that are repeated, with the text before them and behind them, and how often they may stand there.
+const REPEATED: [(&str, &str, &str, usize); 3] = [
+    (
+        "permit(principal, action, resource)",
+        " when { true }",
+        ";",
+        799,
+    ),
+    (
+        "permit(principal, action, resource) when { context has a",
+        ".a",
+        " };",
+        799,
+    ),
+    (
+        "permit(principal, action, resource) when { context",
+        ".a",
+        " };",
+        799,
+    ),
+];
+
+#[test]
+fn repeated_parts(rt: HostRuntime) -> Result<(), Fail> {
+    let alloc = rt.alloc();
+    for (before, part, behind, most) in &REPEATED {
+        for (times, is_read) in [(*most, true), (most.saturating_add(1), false)] {
+            let parts = part.repeat(alloc, times)?;
+            let text = format!(in alloc; "{before}{parts}{behind}")?;
+            let got = fault_of_policy(alloc, text.as_str())?;
+            assert_eq!(rt; got.as_str() == "no fault", is_read, "{times} times {part}");
+            assert_eq!(rt; got.as_str().contains("nested too deep"), !is_read, "{got}");
+        }
     }
     Ok(())
 }

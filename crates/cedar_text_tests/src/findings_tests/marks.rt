@@ -29,7 +29,7 @@ const POLICIES: [(&str, &str); 8] = [
         ATTRIBUTE_TWICE,
     ),
     (
-        "permit(principal, action, resource) when { context has a.\"\u{2067}\" || {\"\u{2068}\": 1} == context };",
+        "permit(principal, action, resource) when { context.a[\"\u{2067}\"] || {\"\u{2068}\": 1} == context };",
         ATTRIBUTE_TWICE,
     ),
     (

@@ -4,7 +4,7 @@ use std::alloc::{AllocError, Global};
 use std::test::Fail;
 
 /// Texts with the fault of each case in the first policy, and the words for it.
-const FIRST: [(&str, &str); 15] = [
+const FIRST: [(&str, &str); 16] = [
     ("", ""),
     ("permit", "policy0 0..6 !6 ( is expected: permit"),
     (
@@ -16,8 +16,12 @@ const FIRST: [(&str, &str); 15] = [
         "a 0..15 !15 a text in quotes is expected: @id=a @b=",
     ),
     (
+        "@id(\"a\") @b forbid[",
+        "a 0..19 !18 ( is expected: @id=a @b= forbid",
+    ),
+    (
         "@id(\"a\") @id(\"b\") forbid[",
-        "b 0..25 !24 ( is expected: @id=a @id=b forbid",
+        "a 0..25 !10 the same key twice: @id=a",
     ),
     (
         "forbid(principal = A::\"a\");",

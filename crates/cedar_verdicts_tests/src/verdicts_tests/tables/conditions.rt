@@ -7,7 +7,7 @@ pub const BEFORE: &str = "permit(principal, action, resource) when { ";
 pub const BEHIND: &str = " };\n";
 
 /// Conditions between `BEFORE` and `BEHIND`, each with the status and the beginning of a line.
-pub const CONDITIONS: [(&str, u8, &str); 37] = [
+pub const CONDITIONS: [(&str, u8, &str); 40] = [
     (
         "principal.age > - 9223372036854775808 && - - 5 > -\n// five\n5",
         0,
@@ -29,6 +29,21 @@ pub const CONDITIONS: [(&str, u8, &str); 37] = [
         "isIpv4(ip(\"10.0.0.1\"))",
         2,
         "p:1:44: fault: `isIpv4` is a method: `ip(\"10.0.0.1\").isIpv4()`",
+    ),
+    (
+        "ip // note\n(\"10.0.0.1\").isIpv4()",
+        0,
+        "p:1:1: policy `policy0`: accepted, level 0",
+    ),
+    (
+        "isIpv4 // c\n(ip(\"1.1.1.1\"))",
+        2,
+        "p:1:44: fault: `isIpv4` is a method: `ip(\"1.1.1.1\").isIpv4()`",
+    ),
+    (
+        "true || ip(\"1.1.1.1\").ip()",
+        2,
+        "p:1:52: fault: `ip` is a function: `ip(ip(\"1.1.1.1\"))`",
     ),
     (
         r#""2024-01-01".datetime() == datetime("2024-01-01")"#,
@@ -59,12 +74,13 @@ pub const CONDITIONS: [(&str, u8, &str); 37] = [
     (
         "resource::owner == principal",
         2,
-        "p:1:44: fault: an expression is expected, where `resource` is read",
+        "p:1:54: fault: an id in quotes is expected, where `owner` is read; ids stand as \
+         `User::\"ann\"`, attributes as `a.b`",
     ),
     (
         "true::x",
         2,
-        "p:1:44: fault: an expression is expected, where `true` is read",
+        "p:1:44: fault: a name that the language keeps for itself, where `true` is read",
     ),
     (
         "(principal is User in principal) is User in principal",

@@ -10,7 +10,7 @@ namespace App { entity Doc; action share appliesTo { principal: User, resource: 
 "#;
 
 /// Conditions, and the errors and warnings against each, with the hints.
-pub const HINTS: [(&str, &[&str]); 45] = [
+pub const HINTS: [(&str, &[&str]); 50] = [
     (
         "resource.isPubic",
         &["attribute `isPubic` does not exist on `Photo`; did you mean `isPublic`?"],
@@ -146,6 +146,44 @@ pub const HINTS: [(&str, &[&str]); 45] = [
              `principal.tags.contains(\"a\")`",
             "unexpected type: expected `Set<entity>` or `entity` but saw `Set<String>`; \
              `contains` looks into a set: `principal.tags.contains(\"a\")`",
+        ],
+    ),
+    (
+        "principal.name in [\"admin\"]",
+        &[
+            "unexpected type: expected `entity` but saw `String`; `contains` looks into a set: \
+             `[\"admin\"].contains(principal.name)`",
+            "unexpected type: expected `Set<entity>` or `entity` but saw `Set<String>`; \
+             `contains` looks into a set: `[\"admin\"].contains(principal.name)`",
+        ],
+    ),
+    (
+        "!principal == resource.owner",
+        &[
+            "the types `Bool`, `User` are not compatible; both sides of `==` have to be of one type",
+            "unexpected type: expected `Bool` but saw `User`; `!` negates `principal` alone: did \
+             you mean `principal != resource.owner`?",
+        ],
+    ),
+    (
+        "context.now < datetime(\"2024-01-01T00:00:00\")",
+        &[
+            "invalid argument: `datetime` cannot read `2024-01-01T00:00:00`; a time of the day \
+             has its zone behind it: `datetime(\"2024-01-01T00:00:00Z\")`",
+        ],
+    ),
+    (
+        "resource is Animal",
+        &[
+            "unrecognized entity type `Animal`; the schema declares `Job`, `List`, `Photo`, \
+             `User`, `Video`, `App::Doc`",
+        ],
+    ),
+    (
+        "action == Action::\"remove\"",
+        &[
+            "unrecognized action `Action::\"remove\"`; the schema declares `Action::\"view\"`, \
+             `App::Action::\"share\"`",
         ],
     ),
     (
