@@ -98,10 +98,20 @@ pub enum Fault {
     UnknownType,
     #[error("a name that the language keeps for itself")]
     Reserved,
-    /// Entity types or actions have more descendants together, over any number of steps, than a
-    /// schema may have, or more parents.
-    #[error("too many descendants")]
+    /// Entity types or actions have more descendants together, over any number of steps, than
+    /// `MAX_DESCENDANTS`, or more parents.
+    #[error("more than 131,072 descendants of entity types, or of actions, together")]
     TooMany,
+    /// Actions have more environments together than `MAX_ENVIRONMENTS`.
+    #[error("actions that apply to more than 131,072 pairs of principal and resource types")]
+    TooManyEnvironments,
+    /// Declarations of several names have more tokens together than `MAX_REPEATED`, if each token
+    /// counts once more for each further name.
+    #[error("declarations of several names that repeat more than a million words")]
+    Repeated,
+    /// The name of a namespace has more parts than `MAX_NAMESPACE_PARTS`.
+    #[error("a namespace of more than 64 parts")]
+    LongNamespace,
     /// The word or mark that should stand here.
     #[error("{0} is expected")]
     Missing(&'static str),

@@ -1,5 +1,6 @@
 // Readings of policies with faults, and of schemas. Each subject has a module.
 mod faulty_policies;
+mod limits;
 mod schemas_once;
 mod shown;
 mod unfinished;

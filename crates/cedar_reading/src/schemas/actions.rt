@@ -17,9 +17,10 @@ use std::rc::RcStr;
 /// Reads a declaration of actions behind its first word.
 pub fn action_declaration(
     cursor: &mut Cursor<'_>,
-    namespace: &[&str],
+    namespace: &[RcStr],
 ) -> Result<WrittenActions, ReadError> {
     let names = own_names(cursor, namespace)?;
+    let before = cursor.tokens();
     let parents = if cursor.takes("in") {
         one_or_more(cursor)?
     } else {
@@ -33,6 +34,7 @@ pub fn action_declaration(
     cursor.expect(";")?;
     Ok(WrittenActions {
         names,
+        tokens: cursor.tokens().saturating_sub(before),
         parents,
         applies_to,
     })
@@ -40,7 +42,7 @@ pub fn action_declaration(
 
 impl Listable for Placed<EntityUID> {
     /// Reads an id that is declared.
-    fn read(cursor: &mut Cursor<'_>, namespace: &[&str]) -> Result<Self, ReadError> {
+    fn read(cursor: &mut Cursor<'_>, namespace: &[RcStr]) -> Result<Self, ReadError> {
         let start = cursor.start();
         let eid = key(cursor)?;
         let name = own_action(cursor.alloc, namespace, eid.as_str())?;
@@ -51,7 +53,7 @@ impl Listable for Placed<EntityUID> {
 impl Listable for WrittenAction {
     /// Reads an action that is declared elsewhere: its id as a name or as a text, or as a text
     /// behind its type.
-    fn read(cursor: &mut Cursor<'_>, _namespace: &[&str]) -> Result<Self, ReadError> {
+    fn read(cursor: &mut Cursor<'_>, _namespace: &[RcStr]) -> Result<Self, ReadError> {
         let alloc = cursor.alloc;
         let start = cursor.start();
         if cursor.peek().kind != TokenKind::Word {

@@ -6,15 +6,19 @@ use crate::notes::Met;
 use crate::schemas::actions::action_declaration;
 use crate::schemas::declarations::{Declared, Written};
 use crate::schemas::entity_types::entity_declaration;
+use crate::schemas::meanings::own_name;
 use crate::schemas::recovery::{go_on_behind, go_on_inside};
 use crate::schemas::reserved::{free_alias, free_word};
 use crate::schemas::types::written_type;
 use crate::schemas::written::{Alias, Item, Space};
-use cedar_types::base::Name;
 use std::alloc::AllocError;
+use std::rc::RcStr;
+
+/// The largest number of parts of a namespace's name. Each declared name holds them all.
+const MAX_NAMESPACE_PARTS: usize = 64;
 
 /// Reads the declarations from here on. If faults are noted, it leaves out those with a fault.
-pub fn written_declarations<'a>(cursor: &mut Cursor<'a>) -> Result<Written<'a>, ReadError> {
+pub fn written_declarations(cursor: &mut Cursor<'_>) -> Result<Written, ReadError> {
     let mut read = Written {
         declared: Declared::new(cursor.alloc),
         spaces: Vec::new(cursor.alloc),
@@ -32,7 +36,7 @@ pub fn written_declarations<'a>(cursor: &mut Cursor<'a>) -> Result<Written<'a>, 
 }
 
 /// Reads a namespace, or a declaration outside of namespaces.
-fn block<'a>(cursor: &mut Cursor<'a>, read: &mut Written<'a>) -> Result<(), ReadError> {
+fn block(cursor: &mut Cursor<'_>, read: &mut Written) -> Result<(), ReadError> {
     pass_annotations(cursor)?;
     if cursor.takes("namespace") {
         return namespace(cursor, read);
@@ -43,7 +47,7 @@ fn block<'a>(cursor: &mut Cursor<'a>, read: &mut Written<'a>) -> Result<(), Read
 }
 
 /// Reads a namespace behind its first word.
-fn namespace<'a>(cursor: &mut Cursor<'a>, read: &mut Written<'a>) -> Result<(), ReadError> {
+fn namespace(cursor: &mut Cursor<'_>, read: &mut Written) -> Result<(), ReadError> {
     let namespace = match head(cursor) {
         Ok(path) => path,
         Err(error) => {
@@ -88,7 +92,7 @@ fn add_faulty(faulty: Option<Item>, items: &mut Vec<Item>) -> Result<(), AllocEr
 /// Reads a declaration of a namespace, and adds it.
 fn add_declaration(
     cursor: &mut Cursor<'_>,
-    namespace: &[&str],
+    namespace: &[RcStr],
     declared: &mut Declared,
     items: &mut Vec<Item>,
 ) -> Result<(), ReadError> {
@@ -98,17 +102,21 @@ fn add_declaration(
 }
 
 /// Reads the name of a namespace, and the brace behind it.
-fn head<'a>(cursor: &mut Cursor<'a>) -> Result<Vec<&'a str>, ReadError> {
+fn head(cursor: &mut Cursor<'_>) -> Result<Vec<RcStr>, ReadError> {
     let path = path(cursor)?;
     cursor.expect("{")?;
     Ok(path)
 }
 
-/// Reads words with `::` between them.
-fn path<'a>(cursor: &mut Cursor<'a>) -> Result<Vec<&'a str>, ReadError> {
+/// Reads words with `::` between them, at most `MAX_NAMESPACE_PARTS`.
+fn path(cursor: &mut Cursor<'_>) -> Result<Vec<RcStr>, ReadError> {
     let mut words = Vec::new(cursor.alloc);
     for _ in 0..cursor.most_left() {
-        words.push(free_word(cursor)?)?;
+        if words.len() >= MAX_NAMESPACE_PARTS {
+            return Err(cursor.fault(Fault::LongNamespace));
+        }
+        let word = free_word(cursor)?;
+        words.push(RcStr::from_str(cursor.alloc, word)?)?;
         if !cursor.takes("::") {
             break;
         }
@@ -119,7 +127,7 @@ fn path<'a>(cursor: &mut Cursor<'a>) -> Result<Vec<&'a str>, ReadError> {
 /// Reads a declaration in the namespace of this name, and adds the names that it declares.
 fn declaration(
     cursor: &mut Cursor<'_>,
-    namespace: &[&str],
+    namespace: &[RcStr],
     declared: &mut Declared,
 ) -> Result<Item, ReadError> {
     pass_annotations(cursor)?;
@@ -141,12 +149,12 @@ fn declaration(
 /// Reads an alias declaration behind its first word, and adds it.
 fn alias_declaration(
     cursor: &mut Cursor<'_>,
-    namespace: &[&str],
+    namespace: &[RcStr],
     declared: &mut Declared,
 ) -> Result<Item, ReadError> {
     let own_start = cursor.start();
     let word = free_alias(cursor)?;
-    let name = Name::new(cursor.alloc, word, namespace)?;
+    let name = own_name(cursor.alloc, namespace, word)?;
     let is_there = declared.alias(&name).is_some();
     if is_there {
         cursor.notes.meet(own_start, Met::Fault(Fault::SameName))?;

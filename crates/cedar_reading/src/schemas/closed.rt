@@ -1,12 +1,16 @@
 // Closed declarations, as a schema takes them: each name on its own, with its descendants.
 use crate::faults::{Fault, ReadError};
-use crate::schemas::declarations::Declarations;
-use crate::schemas::descendants::{Family, MAX_DESCENDANTS};
+use crate::schemas::declarations::{ActionDeclaration, Declarations};
+use crate::schemas::descendants::{Family, MAX_DESCENDANTS, start_of};
 use cedar_types::base::{
     EnumChoices, StandardValidatorEntityType, ValidatorActionId, ValidatorActionKind,
     ValidatorApplySpec, ValidatorEntityType, ValidatorEntityTypeKind,
 };
 use std::alloc::{AllocError, Global};
+
+/// The largest number of environments of a schema: of each action, its principal types times its
+/// resource types. A schema holds them all.
+const MAX_ENVIRONMENTS: usize = 1 << 17;
 
 /// The declared entity types, each with its descendants. It fails if there are too many
 /// descendants.
@@ -70,12 +74,14 @@ fn copy_of_ids(alloc: Global, ids: &EnumChoices) -> Result<EnumChoices, AllocErr
     EnumChoices::new(alloc, copies)
 }
 
-/// The declared actions, each with its descendants. It fails if there are too many descendants.
+/// The declared actions, each with its descendants. It fails if there are too many descendants or
+/// environments.
 pub fn closed_actions(
     alloc: Global,
     read: &Declarations,
 ) -> Result<Vec<ValidatorActionId>, ReadError> {
     let declared = read.actions.as_slice();
+    check_environments(declared)?;
     let family = Family::new(alloc, declared)?;
     let mut actions = Vec::new(alloc);
     let mut count = 0usize;
@@ -91,6 +97,31 @@ pub fn closed_actions(
         }
     }
     Ok(actions)
+}
+
+/// Fails at the first declaration whose actions have too many environments, with those before them.
+fn check_environments(declared: &[ActionDeclaration]) -> Result<(), ReadError> {
+    let mut count = 0usize;
+    for declaration in declared {
+        let each = count_environments(&declaration.kind);
+        count = count.saturating_add(each.saturating_mul(declaration.names.len()));
+        if count > MAX_ENVIRONMENTS {
+            let start = start_of(declaration.names.first());
+            return Err(ReadError::At(start, Fault::TooManyEnvironments));
+        }
+    }
+    Ok(())
+}
+
+/// The number of environments of an action.
+fn count_environments(kind: &ValidatorActionKind) -> usize {
+    match kind {
+        ValidatorActionKind::Defined(applies_to) => {
+            let principals = applies_to.principal_apply_spec.len();
+            principals.saturating_mul(applies_to.resource_apply_spec.len())
+        }
+        ValidatorActionKind::External => 0,
+    }
 }
 
 /// A copy of the kind of an action.

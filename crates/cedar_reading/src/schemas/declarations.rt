@@ -1,5 +1,7 @@
 // Declarations that were read of a schema's text, and their names.
 use crate::faults::{Fault, ReadError};
+use crate::schemas::descendants::start_of;
+use crate::schemas::expansions::MAX_REPEATED;
 use crate::schemas::language::primitive_of;
 use crate::schemas::unsure::UnsureNames;
 use crate::schemas::written::{Alias, Item, Placed, Space, WrittenActions, WrittenTypes};
@@ -33,6 +35,8 @@ pub struct Declared {
     action_names: BTreeSet<EntityUID>,
     /// Whether an entity type has the word of a primitive type as the last part of its name.
     pub has_primitive_word: bool,
+    /// The tokens of declarations of several names, each counted once for each name but the first.
+    repeated: usize,
     /// The names that declarations with a fault may declare.
     pub unsure: UnsureNames,
 }
@@ -45,6 +49,7 @@ impl Declared {
             type_names: BTreeSet::new(alloc),
             action_names: BTreeSet::new(alloc),
             has_primitive_word: false,
+            repeated: 0,
             unsure: UnsureNames::new(alloc),
         }
     }
@@ -56,18 +61,33 @@ impl Declared {
         Ok(())
     }
 
-    /// Adds the names of entity types.
-    pub fn add_types(&mut self, declaration: &WrittenTypes) -> Result<(), AllocError> {
+    /// Adds the names of entity types. It fails if names repeat too many tokens.
+    pub fn add_types(&mut self, declaration: &WrittenTypes) -> Result<(), ReadError> {
+        self.repeat(declaration.names.as_slice(), declaration.tokens)?;
         for own in &declaration.names {
             let is_primitive = primitive_of(own.name.name.basename.as_str()).is_some();
             self.has_primitive_word = self.has_primitive_word || is_primitive;
         }
-        add_names(declaration.names.as_slice(), &mut self.type_names)
+        add_names(declaration.names.as_slice(), &mut self.type_names)?;
+        Ok(())
     }
 
-    /// Adds the names of actions.
-    pub fn add_actions(&mut self, declaration: &WrittenActions) -> Result<(), AllocError> {
-        add_names(declaration.names.as_slice(), &mut self.action_names)
+    /// Adds the names of actions. It fails if names repeat too many tokens.
+    pub fn add_actions(&mut self, declaration: &WrittenActions) -> Result<(), ReadError> {
+        self.repeat(declaration.names.as_slice(), declaration.tokens)?;
+        add_names(declaration.names.as_slice(), &mut self.action_names)?;
+        Ok(())
+    }
+
+    /// Counts the tokens of a declaration once for each of its names but the first, because each
+    /// name has its own copy. It fails if that is too many.
+    fn repeat<N>(&mut self, names: &[Placed<N>], tokens: usize) -> Result<(), ReadError> {
+        let more = tokens.saturating_mul(names.len().saturating_sub(1));
+        self.repeated = self.repeated.saturating_add(more);
+        if self.repeated > MAX_REPEATED {
+            return Err(ReadError::At(start_of(names.first()), Fault::Repeated));
+        }
+        Ok(())
     }
 
     /// The alias of this name, if it is declared.
@@ -93,12 +113,12 @@ impl Declared {
 
 /// The declarations of a text, in its order, and the names that they declare.
 #[derive(Drop)]
-pub struct Written<'a> {
+pub struct Written {
     pub declared: Declared,
-    pub spaces: Vec<Space<'a>>,
+    pub spaces: Vec<Space>,
 }
 
-impl<'a> Written<'a> {
+impl Written {
     /// Adds a declaration with a fault outside of namespaces, if there is one.
     pub fn add_faulty(&mut self, faulty: Option<Item>) -> Result<(), AllocError> {
         match faulty {

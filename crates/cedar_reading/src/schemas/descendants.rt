@@ -8,7 +8,7 @@ use std::collections::{BTreeMap, BTreeSet};
 
 /// The largest number of descendants of all names together; also the largest number of parents that
 /// the declarations may give their names.
-pub const MAX_DESCENDANTS: usize = 1 << 20;
+pub const MAX_DESCENDANTS: usize = 1 << 17;
 
 /// The descendants of each declared name, over any number of steps.
 #[derive(Drop)]
@@ -150,9 +150,13 @@ fn too_many<N: Ord, K>(declared: &[Declaration<N, K>], name: Option<&N>) -> Read
 }
 
 fn fault_at<N>(own: Option<&Placed<N>>) -> ReadError {
-    let start = match own {
+    ReadError::At(start_of(own), Fault::TooMany)
+}
+
+/// The byte of a declared name; the beginning of the text if there is no name.
+pub fn start_of<N>(own: Option<&Placed<N>>) -> usize {
+    match own {
         Some(own) => own.start,
         None => 0,
-    };
-    ReadError::At(start, Fault::TooMany)
+    }
 }

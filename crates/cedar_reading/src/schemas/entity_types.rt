@@ -20,9 +20,10 @@ use std::rc::RcStr;
 /// Reads a declaration of entity types behind its first word.
 pub fn entity_declaration(
     cursor: &mut Cursor<'_>,
-    namespace: &[&str],
+    namespace: &[RcStr],
 ) -> Result<WrittenTypes, ReadError> {
     let names = own_names(cursor, namespace)?;
+    let before = cursor.tokens();
     let mut parents = Vec::new(cursor.alloc);
     let kind = if cursor.takes("enum") {
         WrittenKind::Enum(ids(cursor)?)
@@ -35,6 +36,7 @@ pub fn entity_declaration(
     cursor.expect(";")?;
     Ok(WrittenTypes {
         names,
+        tokens: cursor.tokens().saturating_sub(before),
         parents,
         kind,
     })
@@ -42,7 +44,7 @@ pub fn entity_declaration(
 
 impl Listable for Placed<EntityType> {
     /// Reads a name that the declaration declares.
-    fn read(cursor: &mut Cursor<'_>, namespace: &[&str]) -> Result<Self, ReadError> {
+    fn read(cursor: &mut Cursor<'_>, namespace: &[RcStr]) -> Result<Self, ReadError> {
         let start = cursor.start();
         let name = own_type(cursor.alloc, namespace, free_word(cursor)?)?;
         Ok(Placed { name, start })
@@ -51,7 +53,7 @@ impl Listable for Placed<EntityType> {
 
 impl Listable for WrittenName {
     /// Reads a name that is declared elsewhere.
-    fn read(cursor: &mut Cursor<'_>, _namespace: &[&str]) -> Result<Self, ReadError> {
+    fn read(cursor: &mut Cursor<'_>, _namespace: &[RcStr]) -> Result<Self, ReadError> {
         let read = written_name(cursor)?;
         cursor.notes.mention(&read, Role::EntityType)?;
         Ok(read)

@@ -9,12 +9,12 @@ use crate::schemas::language::unsure_type;
 use crate::schemas::types::deeper;
 use crate::schemas::written::{Alias, WrittenName};
 use cedar_types::base::CedarType;
-use std::alloc::Global;
+use std::alloc::{AllocError, Global};
 use std::collections::BTreeMap;
 use std::mem;
 
 /// The largest number of tokens of aliases that may be read more than once.
-const MAX_REPEATED: usize = 1 << 20;
+pub const MAX_REPEATED: usize = 1 << 20;
 
 /// The type that an alias stands for.
 #[derive(Drop)]
@@ -69,6 +69,8 @@ pub struct Expansions {
     /// The smallest number of grammar steps left so far.
     least: usize,
     pub notes: Notes,
+    /// Whether faults are noted, outside of expansions.
+    are_noted: bool,
 }
 
 impl Expansions {
@@ -85,6 +87,7 @@ impl Expansions {
                 repeated: 0,
             },
             least: usize::MAX,
+            are_noted: notes.are_taken(),
             notes,
         }
     }
@@ -133,17 +136,22 @@ impl Expansions {
         Ok(Some(meant))
     }
 
-    /// Whether the alias could not be expanded with at least `left` steps left.
+    /// Whether the alias could not be expanded with at least `left` steps left. If faults are
+    /// noted, it is not tried again with more, because a long chain of aliases would be followed
+    /// from each of them.
     fn has_failed(&self, alias: &Alias, left: usize) -> bool {
         match self.failed.get(&alias.own_start) {
-            Some(most) => left <= *most,
+            Some(most) => self.are_noted || left <= *most,
             None => false,
         }
     }
 
     /// Begins to expand an alias at this name. Until the end of the expansion it fails at the first
-    /// fault.
-    pub fn begin(&mut self, alias: &Alias, name: &WrittenName) -> Outside {
+    /// fault; if faults are noted, at the alias itself too, so that no circle is followed.
+    pub fn begin(&mut self, alias: &Alias, name: &WrittenName) -> Result<Outside, AllocError> {
+        if self.are_noted {
+            self.failed.insert(alias.own_start, 0)?;
+        }
         let (count, least) = (self.count, self.least);
         let none = Notes::new(self.alloc, false);
         let notes = mem::replace(&mut self.notes, none);
@@ -153,11 +161,11 @@ impl Expansions {
             repeated: 0,
         };
         self.least = usize::MAX;
-        Outside {
+        Ok(Outside {
             count,
             least,
             notes,
-        }
+        })
     }
 
     /// Ends the expansion of an alias at this name, with `left` steps left. It fails if the
@@ -190,6 +198,7 @@ impl Expansions {
         }
         let tokens = whole.saturating_sub(count.at(name.tokens));
         self.count.repeated = count.repeated.saturating_add(tokens);
+        self.failed.remove(&alias.own_start);
         let kept = Expansion {
             meant: meant.clone()?,
             steps,

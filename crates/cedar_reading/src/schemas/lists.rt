@@ -1,6 +1,7 @@
 // Listings: parts of a schema of which there may be several.
 use crate::cursor::Cursor;
 use crate::faults::ReadError;
+use std::rc::RcStr;
 
 /// The number of parts that may stand at a place, and the marks around them.
 #[derive(Clone, Copy, PartialEq, Eq, Debug)]
@@ -43,13 +44,13 @@ impl Listing {
 /// A name of which a list may stand in a schema.
 pub trait Listable: Drop + Sized {
     /// Reads one name, in the namespace whose name has these parts.
-    fn read(cursor: &mut Cursor<'_>, namespace: &[&str]) -> Result<Self, ReadError>;
+    fn read(cursor: &mut Cursor<'_>, namespace: &[RcStr]) -> Result<Self, ReadError>;
 }
 
 /// Reads names, as many as `listing` allows.
 fn listed<N: Listable>(
     cursor: &mut Cursor<'_>,
-    namespace: &[&str],
+    namespace: &[RcStr],
     listing: Listing,
 ) -> Result<Vec<N>, ReadError> {
     let mut listed = Vec::new(cursor.alloc);
@@ -71,7 +72,7 @@ pub fn one_or_more<N: Listable>(cursor: &mut Cursor<'_>) -> Result<Vec<N>, ReadE
 /// Reads the names that are declared in `namespace`.
 pub fn own_names<N: Listable>(
     cursor: &mut Cursor<'_>,
-    namespace: &[&str],
+    namespace: &[RcStr],
 ) -> Result<Vec<N>, ReadError> {
     listed(cursor, namespace, Listing::WithCommas)
 }

@@ -4,30 +4,44 @@ use crate::schemas::declarations::Declared;
 use crate::schemas::written::Alias;
 use cedar_types::base::{EntityType, EntityUID, Name};
 use std::alloc::{AllocError, Global};
+use std::rc::RcStr;
 
 /// The names that are in force at a place: the namespace and the declarations.
 #[derive(Clone, Copy)]
 pub struct Names<'a> {
     pub alloc: Global,
     /// The parts of the namespace's name; none outside of namespaces.
-    pub namespace: &'a [&'a str],
+    pub namespace: &'a [RcStr],
     /// The declarations of the text.
     pub declared: &'a Declared,
     /// Whether every named entity type has to be declared, or be a type of actions.
     pub have_to_be_known: bool,
 }
 
+/// The name that a declaration of `basename` in this namespace declares. It shares the parts of the
+/// namespace's name with all others.
+pub fn own_name(alloc: Global, namespace: &[RcStr], basename: &str) -> Result<Name, AllocError> {
+    let mut path = Vec::new(alloc);
+    for part in namespace {
+        path.push(part.clone()?)?;
+    }
+    Ok(Name {
+        path,
+        basename: RcStr::from_str(alloc, basename)?,
+    })
+}
+
 /// The entity type that a declaration of `basename` in this namespace declares.
 pub fn own_type(
     alloc: Global,
-    namespace: &[&str],
+    namespace: &[RcStr],
     basename: &str,
 ) -> Result<EntityType, AllocError> {
-    Ok(EntityType::new(Name::new(alloc, basename, namespace)?, None))
+    Ok(EntityType::new(own_name(alloc, namespace, basename)?, None))
 }
 
 /// The action that a declaration of `eid` in this namespace declares.
-pub fn own_action(alloc: Global, namespace: &[&str], eid: &str) -> Result<EntityUID, AllocError> {
+pub fn own_action(alloc: Global, namespace: &[RcStr], eid: &str) -> Result<EntityUID, AllocError> {
     let action_type = own_type(alloc, namespace, "Action")?;
     EntityUID::from_components(alloc, action_type, eid, None)
 }

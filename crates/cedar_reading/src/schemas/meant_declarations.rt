@@ -54,7 +54,7 @@ impl Found {
     /// Adds the meanings of the declarations of a namespace.
     fn add_space(
         &mut self,
-        space: Space<'_>,
+        space: Space,
         declared: &Declared,
         named: Named,
         expansions: &mut Expansions,
@@ -78,7 +78,7 @@ impl Found {
 /// those with a fault.
 pub fn with_meanings(
     alloc: Global,
-    written: Written<'_>,
+    written: Written,
     named: Named,
     expansions: &mut Expansions,
 ) -> Result<Declarations, ReadError> {

@@ -6,9 +6,8 @@ use crate::schemas::language::{primitive, undeclared_type, unsure_type};
 use crate::schemas::meanings::Names;
 use crate::schemas::written::{Alias, WrittenName, WrittenRecord, WrittenType};
 use cedar_types::base::{AttributeType, Attributes, CedarType, OpenTag};
-use std::alloc::{AllocError, Global};
+use std::alloc::Global;
 use std::collections::BTreeMap;
-use std::rc::RcStr;
 
 /// The type that `written` means.
 #[cycle(meant_types)]
@@ -103,22 +102,13 @@ fn meant_alias(
     if let Some(known) = expansions.known(alias, name, inner)? {
         return Ok(known);
     }
-    let namespace = words(names.alloc, alias.name.path.as_slice())?;
     let own = Names {
-        namespace: namespace.as_slice(),
+        namespace: alias.name.path.as_slice(),
         ..*names
     };
-    let outside = expansions.begin(alias, name);
+    let outside = expansions.begin(alias, name)?;
     let read = meant_type(&alias.written, &own, inner, expansions);
     expansions.end(outside, alias, name, inner, read)
-}
-
-fn words(alloc: Global, path: &[RcStr]) -> Result<Vec<&str>, AllocError> {
-    let mut words = Vec::new(alloc);
-    for word in path {
-        words.push(word.as_str())?;
-    }
-    Ok(words)
 }
 
 /// A type in the place of one that the language does not have. The fault was noted at that type,

@@ -124,6 +124,8 @@ pub struct Alias {
 #[derive(Drop)]
 pub struct WrittenTypes {
     pub names: Vec<Placed<EntityType>>,
+    /// Number of tokens behind the names.
+    pub tokens: usize,
     /// The direct parents of each of the types.
     pub parents: Vec<WrittenName>,
     pub kind: WrittenKind,
@@ -141,6 +143,8 @@ pub enum WrittenKind {
 #[derive(Drop)]
 pub struct WrittenActions {
     pub names: Vec<Placed<EntityUID>>,
+    /// Number of tokens behind the names.
+    pub tokens: usize,
     /// The direct parents of each of the actions.
     pub parents: Vec<WrittenAction>,
     /// The parts of `appliesTo`, in the order of the text.
@@ -186,8 +190,8 @@ pub enum Item {
 
 /// Declarations of one namespace, or outside of namespaces.
 #[derive(Drop)]
-pub struct Space<'a> {
+pub struct Space {
     /// The parts of the namespace's name; none outside of namespaces.
-    pub namespace: Vec<&'a str>,
+    pub namespace: Vec<RcStr>,
     pub items: Vec<Item>,
 }
