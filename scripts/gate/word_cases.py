@@ -46,7 +46,13 @@ FILES = {
                '@id("gains") permit(principal, action == Action::"edit", resource);\n'
                '@id("rises") permit(principal, action, resource) when { resource.meta.size > 1 };\n'
                '@id("ends") permit(principal, action, resource) when { resource.owner is User };\n',
-    "other": '@id("other") permit(principal, action, resource) when { principal.rank > 1 || resource.public };\n',
+    "other": '@id("other") permit(principal, action == Action::"view", resource) when { principal.rank > 1 || resource.public };\n',
+    "one": "entity A;\naction a00 appliesTo { principal: A, resource: A };\n",
+    "many": f"entity A;\naction {', '.join(f'a{number:02}' for number in range(13))} appliesTo {{ principal: A, resource: A }};\n",
+    "moved": "entity A; entity B;\naction a00 appliesTo { principal: B, resource: A };\n",
+    # was impossible, and is refused: it is not called possible
+    "unlikely": '@id("u") permit(principal, action, resource) when { principal is B && principal.b };\n',
+    "unlike": "entity A; entity B { b: Bool };\naction a00 appliesTo { principal: A, resource: A };\n",
     "j.json": '{"": {"entityTypes": {"User": {}}, "actions": {"view": {"appliesTo": {"principalTypes": ["User"], "resourceTypes": ["User"]}}}}}',
     "p.json": '{"effect": "permit", "principal": {"op": "All"}, "action": {"op": "All"}, "resource": {"op": "All"}, "conditions": []}',
     "links": json.dumps([{"template_id": "share", "link_id": "alice", "args": {"?principal": 'User::"alice"', "?resource": 'Photo::"one"'}},
@@ -57,6 +63,9 @@ FILES = {
                              {"template_id": "plain", "link_id": "share", "args": {}},
                              {"template_id": "plain", "link_id": "four", "args": {}},
                              {"template_id": "plain", "link_id": "four", "args": {}}], indent=1),
+    "links_half": '[{"template_id": "share", "link_id": "a", "args": {"?principal": "alice"}}, '
+                  '{"template_id": "share", "link_id": "odd", "args": {"?principal": "Photo::\\"one\\"", "?resource": "Photo::\\"one\\""}}, x]',
+    "links_many": f"[{','.join('1' * 150)}]",
     "links_odd": '[{"template_id": "share", "link_id": "a", "args": {"?principal": "alice"}}]',
 }
 
@@ -76,6 +85,7 @@ UNREAD = at("broken", ");") + ": fault: `,` is expected, where `)` is read"
 UNDECLARED = at("bad", "C") + ": fault: a type that is not declared: `C`"
 ONE = "policies: 1, accepted: 1, refused: 0, warnings: 0, faults: 0, level 0"
 TAKEN = ": fault: a policy or another link has this id"
+NO_SLOTS = ": fault: the policy of this id has no slots, so it is no template"
 UNFIT = ": fault: the link does not bind the slots of its template"
 # Words, what stands on standard input, the status, and what each line begins with; lines of excerpts do not count.
 RUNS = (
@@ -123,7 +133,14 @@ RUNS = (
     ("s t -k links", "", 0, ["t:1:1: policy `share`: accepted, level 1", "t:1:1: policy `alice`: accepted, level 1", "t:1:1: policy `odd`: accepted",
      "t:1:1: warning: ", "t:1:1: warning: ", "t:2:1: policy `plain`: accepted, level 0", "policies: 4, accepted: 4, refused: 0, warnings: 2, faults: 0"]),
     ("s t --template-linked links_bad -q", "", 2, [at("links_bad", '"gone"') + ": fault: no policy has this id", at("links_bad", '"two"') + UNFIT,
-     at("links_bad", '"three"') + UNFIT, at("links_bad", '"share"', 1) + TAKEN, at("links_bad", '"four"', 1) + TAKEN]),
+     at("links_bad", '"plain"') + NO_SLOTS, at("links_bad", '"share"', 1) + TAKEN, at("links_bad", '"plain"', 2) + NO_SLOTS, at("links_bad", '"four"', 1) + TAKEN]),
+    # a link that cannot be read costs itself alone
+    ("s t -k links_half -q", "", 2, ["t:1:1: policy `odd`: accepted", "t:1:1: warning: ", "t:1:1: warning: ",
+     at("links_half", '"alice"') + ': fault: a text such as `User::"alice"` is expected, where `"alice"` is read', "links_half:1:"]),
+    ("s t -k links_many -q", "", 2, [*[f"links_many:1:{2 + 2 * number}: fault: an object is expected, where `1` is read" for number in range(100)],
+     "links_many: fault: 50 more faults"]),
+    ("s p -k links_many", "", 2, [A, *["links_many:1:"] * 100, "links_many: fault: 50 more faults",
+     "policies: 1, accepted: 1, refused: 0, warnings: 0, faults: 150, level 0"]),
     ("s t -k links_odd -q", "", 2, [at("links_odd", '"alice"') + ': fault: a text such as `User::"alice"` is expected, where `"alice"` is read']),
     # a change of the schema
     ("--since s new changes", "", 1, [
@@ -140,16 +157,23 @@ RUNS = (
         "changes:5:1: policy `rises`: another level, 1 in place of 2",
         "changes:6:1: policy `ends`: no longer impossible", at("changes", "resource.owner is User") + ": gone: warning: policy is impossible"]),
     ("--since s new other -q", "", 0, ["other:1:1: policy `other`: other findings", at("other", "resource.public") + ": error: attribute `public` does not exist"]),
-    ("--since s new p", "", 0, ["policies: 1, changed: 0, worse: 0, faults: 0"]),
+    ("--since s new p", "", 0, ["p:1:1: policy `a`: new environments", "policies: 1, changed: 1, worse: 0, faults: 0"]),
+    ("--since new s p", "", 0, ["p:1:1: policy `a`: lost environments", "policies: 1, changed: 1, worse: 0, faults: 0"]),
+    ("--since one moved p", "", 0, ["p:1:1: policy `a`: new environments, lost environments", "policies: 1, changed: 1, worse: 0, faults: 0"]),
+    ("--since one moved p --deny-warnings --cedar-status", "", 0, ["p:1:1: policy `a`: new environments, lost environments", "policies: 1, "]),
+    ("--since unlike moved unlikely", "", 1, ["unlikely:1:1: policy `u`: worse: newly refused, new environments", at("unlikely", "principal.b") + ": error: attribute `b` does not",
+     at("unlikely", "principal is B") + ": gone: warning: policy is impossible", "policies: 1, changed: 1, worse: 1, faults: 0"]),
     ("--since s s changes -q", "", 0, []),
     ("--since s new t -k links -q --json", "", 1, [
-        '{"kind":"change","file":"t","line":1,"column":1,"end_line":1,"end_column":102,"id":"share","worse":true,"changes":["refused"],"accepted":false,'
-        '"was_accepted":true,"was_level":1}', '{"kind":"error","file":"t",',
-        '{"kind":"change","file":"t","line":1,"column":1,"end_line":1,"end_column":102,"id":"alice","worse":true', '{"kind":"error","file":"t",']),
+        '{"kind":"change","file":"t","line":1,"column":1,"end_line":1,"end_column":102,"id":"share","worse":true,"changes":["refused","gained"],"accepted":false,'
+        '"was_accepted":true,"was_level":1,"gained":["Action::\\"edit\\" by User on Photo"],"lost":[]}', '{"kind":"error","file":"t",',
+        '{"kind":"change","file":"t","line":1,"column":1,"end_line":1,"end_column":102,"id":"alice","worse":true', '{"kind":"error","file":"t",',
+        '{"kind":"change","file":"t","line":2,"column":1,"end_line":2,"end_column":50,"id":"plain","worse":false,"changes":["gained"],"accepted":true,'
+        '"was_accepted":true,"level":0,"was_level":0,"gained":["Action::\\"edit\\" by User on Photo"],"lost":[]}']),
     ("--since s new changes --json", "", 1, ['{"kind":"change",', '{"kind":"error",', '{"kind":"change",', '{"kind":"error",', '{"kind":"change",', '{"kind":"gone",',
      '{"kind":"change",', '{"kind":"change",', '{"kind":"warning",', '{"kind":"changes","policies":6,"changed":5,"worse":4,"faults":0}']),
     ("--since bad s p", "", 2, [UNDECLARED]),
-    ("--since s new broken --quiet", "", 2, [UNREAD]),
+    ("--since s new broken --quiet", "", 2, [UNREAD, "broken:2:1: policy `y`: new environments"]),
     ("--since s --entities p s p", "", 2, []),
 )
 # What is completed of a word in bash, behind these words.
@@ -192,8 +216,27 @@ def sarif_differs(program, room):
     """What SARIF has of a change, where it is not each finding that came; else None."""
     status, text = ended(program, room, ["--since", "s", "--format", "sarif", "--cedar-status", "new", "changes"])
     results = [(it["ruleId"], it["level"]) for it in json.loads(text)["runs"][0]["results"]]
-    wanted = [("unknown-attribute", "error"), ("unknown-attribute", "error"), ("impossible", "warning")]
+    note = ("environments", "note")
+    wanted = [note, ("unknown-attribute", "error"), note, ("unknown-attribute", "error"), note, note, note, ("impossible", "warning")]
     return None if status == 3 and results == wanted else text
+
+
+# Calls, and the very lines that they write: of many environments ten, and the number of the others.
+ENVIRONMENTS = [f'Action::"a{number:02}" by A on A' for number in range(1, 11)] + ["2 more"]
+EXACT = (
+    ("--since one many p -q", ["p:1:1: policy `a`: new environments", *[f"  newly for {it}" for it in ENVIRONMENTS]]),
+    ("--since many one p -q", ["p:1:1: policy `a`: lost environments", *[f"  no longer for {it}" for it in ENVIRONMENTS]]),
+    ("--since one moved p -q", ["p:1:1: policy `a`: new environments, lost environments", '  newly for Action::"a00" by B on A', '  no longer for Action::"a00" by A on A']),
+    ("--since one many p -q --json", [json.dumps({
+        "kind": "change", "file": "p", "line": 1, "column": 1, "end_line": 1, "end_column": 46, "id": "a", "worse": False, "changes": ["gained"],
+        "accepted": True, "was_accepted": True, "level": 0, "was_level": 0, "gained": ENVIRONMENTS, "lost": []}, separators=(",", ":"))]),
+)
+
+
+def exactly_differs(program, room, words, wanted):
+    """What a run writes, where that is something else; else None."""
+    _, text = ended(program, room, words.split())
+    return None if text.splitlines() == wanted else text
 
 
 def words_of_page():
@@ -267,6 +310,8 @@ def main(words):
             Path(room, name).write_text(text, encoding="utf8")
         for said, given, status, wanted in RUNS:
             counts.add(said, differs(program, room, said, given, status, wanted))
+        for said, wanted in EXACT:
+            counts.add(said, exactly_differs(program, room, said, wanted))
         counts.add("SARIF", sarif_differs(program, room))
         for answers in (words_differ, completions_differ, colours_differ):
             for what, difference in answers(program, room):

@@ -12,7 +12,7 @@ mod expressions;
 mod faults;
 mod forms;
 pub mod given;
-pub mod links;
+mod links;
 mod nesting;
 mod policies;
 mod schemas;

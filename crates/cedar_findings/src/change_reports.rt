@@ -57,7 +57,7 @@ impl<'a> ChangeReport<'a> {
         let place = self.place(policy.loc.unwrap_or(Loc { start: 0, end: 0 }));
         push_change(
             &mut shown,
-            *format,
+            format,
             Whose { place, id },
             old,
             new,

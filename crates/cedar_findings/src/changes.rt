@@ -1,9 +1,10 @@
 //! Changes for a policy from one schema to another, in each format.
+use crate::environment_changes::{EnvironmentChanges, push_environments};
 use crate::escapes::{Shown, ShownId};
 use crate::findings::{Finding, Requirement, Severity, Verdict};
 use crate::formats::Format;
 use crate::json::JsonWriter;
-use crate::objects::add_place;
+use crate::objects::{add_place, add_texts};
 use crate::writers::Place;
 use std::alloc::AllocError;
 
@@ -20,6 +21,10 @@ pub enum Change {
     Possible,
     /// The policy needs another level.
     Level,
+    /// The policy applies to environments to which it did not apply.
+    Gained,
+    /// The policy no longer applies to environments to which it did.
+    Lost,
 }
 
 impl Change {
@@ -31,6 +36,8 @@ impl Change {
             Change::Impossible => ("newly impossible", "impossible"),
             Change::Possible => ("no longer impossible", "possible"),
             Change::Level => ("another level", "level"),
+            Change::Gained => ("new environments", "gained"),
+            Change::Lost => ("lost environments", "lost"),
         }
     }
 }
@@ -40,6 +47,7 @@ impl Change {
 pub struct Comparison<'o, 'n> {
     pub is_worse: bool,
     pub changes: Vec<Change>,
+    pub environments: EnvironmentChanges,
     /// The findings that came: those of the newer verdict alone.
     pub came: Vec<(Severity, &'n Finding)>,
     /// The findings that went: those of the older verdict alone.
@@ -79,19 +87,25 @@ pub struct Whose<'a> {
     pub id: &'a str,
 }
 
-/// Adds the changes for a policy, without its findings. SARIF gets none, because each of its results is a finding.
+/// Adds the changes for a policy, without its findings. SARIF gets the environments alone, as a note, because its other results
+/// are findings.
 pub fn push_change(
     out: &mut String,
-    format: Format,
+    format: &mut Format,
     policy: Whose<'_>,
     old: &Verdict,
     new: &Verdict,
     comparison: &Comparison<'_, '_>,
 ) -> Result<(), AllocError> {
     match format {
-        Format::Lines(_) => push_line(out, policy, (old.requirement, new.requirement), comparison),
+        Format::Lines(_) => {
+            push_line(out, policy, (old.requirement, new.requirement), comparison)?;
+            push_environments(out, &comparison.environments)
+        }
         Format::Objects(_) => push_object(out, policy, old, new, comparison),
-        Format::Sarif(_) => Ok(()),
+        Format::Sarif(writer) => {
+            writer.add_environments(out, policy.place, policy.id, &comparison.environments)
+        }
     }
 }
 
@@ -229,6 +243,8 @@ fn push_object(
     add_boolean(&mut json, out, "was_accepted", old.is_accepted)?;
     add_level(&mut json, out, "level", new.requirement)?;
     add_level(&mut json, out, "was_level", old.requirement)?;
+    add_texts(&mut json, out, "gained", &comparison.environments.gained)?;
+    add_texts(&mut json, out, "lost", &comparison.environments.lost)?;
     json.end_object(out)?;
     json.end_line(out)
 }

@@ -27,6 +27,7 @@ pub enum Code {
     NoAction,
     Direction,
     LookAlike,
+    Environments,
     DataType,
     DataMissing,
     DataUndeclared,
@@ -38,7 +39,7 @@ pub enum Code {
 }
 
 /// All kinds, in order.
-pub const CODES: [Code; 31] = [
+pub const CODES: [Code; 32] = [
     Code::UnknownType,
     Code::UnknownAction,
     Code::UnknownId,
@@ -62,6 +63,7 @@ pub const CODES: [Code; 31] = [
     Code::NoAction,
     Code::Direction,
     Code::LookAlike,
+    Code::Environments,
     Code::DataType,
     Code::DataMissing,
     Code::DataUndeclared,
@@ -130,6 +132,7 @@ impl Code {
             Code::NoAction => "no-action",
             Code::Direction => "direction",
             Code::LookAlike => "look-alike",
+            Code::Environments => "environments",
             Code::DataType => "data-type",
             Code::DataMissing => "data-missing",
             Code::DataUndeclared => "data-undeclared",
@@ -167,6 +170,7 @@ impl Code {
             Code::NoAction => "No action fits the scope of a policy.",
             Code::Direction => "A text has marks that change the direction of what is shown.",
             Code::LookAlike => "A text has letters that may be taken for others.",
+            Code::Environments => "A policy applies to other environments by a newer schema.",
             Code::DataType => "A value has another type than the schema declares.",
             Code::DataMissing => "An attribute that the schema requires is not there.",
             Code::DataUndeclared => "The schema does not declare what data has.",

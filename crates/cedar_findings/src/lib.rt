@@ -11,6 +11,7 @@ mod command_lines;
 pub mod completions;
 pub mod data_findings;
 mod digits;
+pub mod environment_changes;
 pub mod escapes;
 pub mod excerpts;
 mod fault_hints;

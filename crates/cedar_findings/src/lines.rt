@@ -102,7 +102,7 @@ fn push_finding(
 }
 
 /// Adds an indented line, which belongs to the line before, of these words and a text.
-fn push_indented(out: &mut String, words: &str, text: &str) -> Result<(), AllocError> {
+pub(crate) fn push_indented(out: &mut String, words: &str, text: &str) -> Result<(), AllocError> {
     out.push_str("  ")?;
     out.push_str(words)?;
     push_shown(out, text)?;

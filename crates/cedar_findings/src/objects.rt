@@ -145,7 +145,7 @@ fn add_finding(
 }
 
 /// Adds a member of this name, a list of texts.
-fn add_texts(
+pub(crate) fn add_texts(
     json: &mut JsonWriter,
     out: &mut String,
     name: &str,

@@ -7,7 +7,7 @@ use crate::columns::Columns;
 use crate::faults::TextFault;
 use crate::formats::Format;
 use crate::lines::Lines;
-use crate::reports::{render_fault, render_missing};
+use crate::reports::{Report, render_fault, render_missing};
 use crate::sources::{Content, Source};
 use crate::totals::Totals;
 use crate::writers::FindingsWriter;
@@ -127,6 +127,30 @@ impl Output {
             }
         }
         Ok(None)
+    }
+
+    /// Shows faults of a file, and counts them. They are found fast if they stand in the order of their places.
+    pub fn add_faults(
+        &mut self,
+        alloc: Global,
+        source: Source<'_>,
+        faults: &[TextFault],
+    ) -> Result<(), AllocError> {
+        let mut report = Report::new(alloc, self.format, self.columns, source);
+        for fault in faults {
+            self.totals.add_fault();
+            let found = report.fault_shown(alloc, fault)?;
+            self.show(alloc, source.name, found.as_str())?;
+        }
+        self.format = report.format();
+        Ok(())
+    }
+
+    /// Shows the number of further faults of a file, and counts them.
+    pub fn add_others(&mut self, alloc: Global, name: &str, faults: u64) -> Result<(), AllocError> {
+        self.totals.add_faults(faults);
+        let why = format!(in alloc; "{faults} more faults")?;
+        self.show_missing(alloc, name, why.as_str())
     }
 
     /// Shows and counts that the rest of a file is not read, because the file has this many faults.

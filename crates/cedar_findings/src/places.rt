@@ -40,8 +40,11 @@ impl<'a> Places<'a> {
         }
     }
 
-    /// Makes an index, in one reading of the text.
+    /// Makes an index, in one reading of the text, unless there is one.
     pub fn index(&mut self) -> Result<(), AllocError> {
+        if !self.marks.is_empty() {
+            return Ok(());
+        }
         let mut position = BEGINNING;
         let mut next = 0usize;
         for (at, c) in self.text.char_indices() {

@@ -69,6 +69,10 @@ pub fn description(code: Code) -> &'static str {
             "A text, an id or an attribute has letters of several scripts, or letters that look like those \
              of Latin, so that a reader may take it for another."
         }
+        Code::Environments => {
+            "By the newer schema a policy may apply in an environment in which it could not by the older one, \
+             or the reverse: an environment is an action with the types of its principal and its resource."
+        }
         Code::DataType =>
             "A value in entities or a context has another type than the schema declares.",
         Code::DataMissing => {
@@ -122,6 +126,7 @@ pub fn help(code: Code) -> &'static str {
         Code::NoAction => "Correct the scope, or the `appliesTo` of the action in the schema.",
         Code::Direction => "Remove these characters, unless the text is meant to have them.",
         Code::LookAlike => "Write the text in the letters of one script.",
+        Code::Environments => "Restrict the scope of the policy, if it must not apply there.",
         Code::DataType => "Correct the value, or the type in the schema.",
         Code::DataMissing => "Add what is missing, or make the attribute optional in the schema.",
         Code::DataUndeclared => "Correct the name, or declare it in the schema.",
@@ -166,6 +171,7 @@ pub fn page(code: Code) -> &'static str {
         | Code::NoAction
         | Code::Direction
         | Code::LookAlike
+        | Code::Environments
         | Code::Rest => "https://docs.cedarpolicy.com/policies/validation.html",
     }
 }

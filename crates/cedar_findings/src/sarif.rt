@@ -1,18 +1,21 @@
 //! Findings as SARIF 2.1.0, one object of JSON for all: code hosts show it beside the lines.
-use crate::codes::{CODES, Code};
+mod beginning;
+
+use crate::codes::Code;
 use crate::columns::Columns;
 use crate::data_findings::DataFinding;
-use crate::findings::{Finding, Severity};
+use crate::environment_changes::EnvironmentChanges;
+use crate::findings::Finding;
 use crate::json::JsonWriter;
 use crate::objects;
-use crate::rules::{description, help, page};
 use crate::totals::Totals;
 use crate::writers::{Entry, FindingsWriter, Place};
+use beginning::add_beginning;
 use cedar_reading::Position;
 use std::alloc::AllocError;
 
-/// The address of SARIF's schema.
-const SCHEMA: &str = "https://json.schemastore.org/sarif-2.1.0.json";
+/// The level of a result that refuses something.
+const ERROR: &str = "error";
 
 /// Writes one object of SARIF for all.
 #[derive(Clone, Copy)]
@@ -32,27 +35,27 @@ impl FindingsWriter for Sarif {
             // a result of SARIF is a finding, so a policy itself has none
             Entry::Policy(_, _, _) => return Ok(()),
             Entry::Finding(place, id, severity, finding) => {
-                begin_result(json, out, finding.code, severity)?;
+                begin_result(json, out, finding.code, severity.text())?;
                 add_finding(json, out, id, finding)?;
                 add_place(json, out, place)?;
             }
             Entry::Rest(place, id, count) => {
-                begin_result(json, out, Code::Rest, Severity::Error)?;
+                begin_result(json, out, Code::Rest, ERROR)?;
                 add_rest(json, out, id, count)?;
                 add_place(json, out, place)?;
             }
             Entry::Data(place, finding) => {
-                begin_result(json, out, finding.code, Severity::Error)?;
+                begin_result(json, out, finding.code, ERROR)?;
                 add_data(json, out, finding)?;
                 add_place(json, out, place)?;
             }
             Entry::Fault(place, text) => {
-                begin_result(json, out, Code::Fault, Severity::Error)?;
+                begin_result(json, out, Code::Fault, ERROR)?;
                 json.text_part(out, text)?;
                 add_place(json, out, place)?;
             }
             Entry::Missing(file, why) => {
-                begin_result(json, out, Code::File, Severity::Error)?;
+                begin_result(json, out, Code::File, ERROR)?;
                 json.text_part(out, why)?;
                 add_file(json, out, file)?;
             }
@@ -78,6 +81,32 @@ impl Sarif {
             columns,
         }
     }
+
+    /// Adds the environments that the policy of this id gained and lost by a change of the schema, as a note at its place.
+    /// Nothing is added if there are none.
+    pub(crate) fn add_environments(
+        &mut self,
+        out: &mut String,
+        place: Place<'_>,
+        id: &str,
+        environments: &EnvironmentChanges,
+    ) -> Result<(), AllocError> {
+        if environments.is_empty() {
+            return Ok(());
+        }
+        let json = &mut self.json;
+        begin_result(json, out, Code::Environments, "note")?;
+        add_part(json, out, "policy `", id)?;
+        json.text_part(out, "`: other environments")?;
+        for gained in &environments.gained {
+            add_part(json, out, "; newly for ", gained.as_str())?;
+        }
+        for lost in &environments.lost {
+            add_part(json, out, "; no longer for ", lost.as_str())?;
+        }
+        add_place(json, out, place)?;
+        end_result(json, out)
+    }
 }
 
 /// The word of SARIF for a unit of columns. It has none for bytes, so the command line refuses these two together.
@@ -88,74 +117,17 @@ fn column_kind(columns: Columns) -> &'static str {
     }
 }
 
-/// Adds the part before the results, which says the kind of the columns.
-fn add_beginning(
-    json: &mut JsonWriter,
-    out: &mut String,
-    column_kind: &str,
-) -> Result<(), AllocError> {
-    json.begin_object(out)?;
-    json.text_at(out, "$schema", SCHEMA)?;
-    json.text_at(out, "version", "2.1.0")?;
-    json.key(out, "runs")?;
-    json.begin_list(out)?;
-    json.begin_object(out)?;
-    json.key(out, "tool")?;
-    json.begin_object(out)?;
-    json.key(out, "driver")?;
-    json.begin_object(out)?;
-    json.text_at(out, "name", "cedar-validate")?;
-    json.text_at(out, "version", "0.1.0")?;
-    json.key(out, "rules")?;
-    json.begin_list(out)?;
-    for code in CODES {
-        json.begin_line(out)?;
-        add_rule(json, out, code)?;
-    }
-    json.end_list(out)?;
-    json.end_object(out)?;
-    json.end_object(out)?;
-    json.begin_line(out)?;
-    json.text_at(out, "columnKind", column_kind)?;
-    json.key(out, "results")?;
-    json.begin_list(out)
-}
-
-/// Adds a kind of finding. Its `helpUri` leads to Cedar's documentation, because SARIF wants an absolute address there.
-fn add_rule(json: &mut JsonWriter, out: &mut String, code: Code) -> Result<(), AllocError> {
-    json.begin_object(out)?;
-    json.text_at(out, "id", code.text())?;
-    add_message(json, out, "shortDescription", code.meaning())?;
-    add_message(json, out, "fullDescription", description(code))?;
-    add_message(json, out, "help", help(code))?;
-    json.text_at(out, "helpUri", page(code))?;
-    json.end_object(out)
-}
-
-/// Adds a member of this name that is a message.
-fn add_message(
-    json: &mut JsonWriter,
-    out: &mut String,
-    name: &str,
-    text: &str,
-) -> Result<(), AllocError> {
-    json.key(out, name)?;
-    json.begin_object(out)?;
-    json.text_at(out, "text", text)?;
-    json.end_object(out)
-}
-
 /// Begins a result on a line of its own, up to the text of its message.
 fn begin_result(
     json: &mut JsonWriter,
     out: &mut String,
     code: Code,
-    severity: Severity,
+    level: &str,
 ) -> Result<(), AllocError> {
     json.begin_line(out)?;
     json.begin_object(out)?;
     json.text_at(out, "ruleId", code.text())?;
-    json.text_at(out, "level", severity.text())?;
+    json.text_at(out, "level", level)?;
     json.key(out, "message")?;
     json.begin_object(out)?;
     json.key(out, "text")?;

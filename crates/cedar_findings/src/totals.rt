@@ -79,7 +79,12 @@ impl Totals {
 
     /// Counts a fault.
     pub fn add_fault(&mut self) {
-        self.faults = self.faults.saturating_add(1);
+        self.add_faults(1);
+    }
+
+    /// Counts so many faults.
+    pub fn add_faults(&mut self, count: u64) {
+        self.faults = self.faults.saturating_add(count);
     }
 
     /// Counts the missing schema as a fault.

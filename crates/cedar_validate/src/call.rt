@@ -11,7 +11,7 @@ use cedar_verdicts::links::Links;
 use cedar_verdicts::settings::Settings;
 use cedar_verdicts::shown::changes::{BothSettings, ShownChanges};
 use cedar_verdicts::shown::policies::{Shared, ShownPolicies};
-use cedar_verdicts::shown::texts::{show_parsed, show_unmade};
+use cedar_verdicts::shown::texts::{show_link_faults, show_parsed};
 use std::io;
 use std::io::Write;
 use std::rt::Files;
@@ -72,7 +72,8 @@ impl<R: Files + AllocGlobal + Input, O: Write, T: Write> Call<'_, R, O, T> {
         for name in &arguments.policies {
             self.validate_file(&settings, name.as_str(), &mut shared)?;
         }
-        show_unmade(alloc, &arguments.links, &shared.links, &mut self.output)?;
+        let Shared { links, .. } = shared;
+        show_link_faults(alloc, &arguments.links, links, &mut self.output)?;
         self.check_data(validator.schema(), DataKind::Entities, &arguments.entities)?;
         self.check_data(validator.schema(), DataKind::Request, &arguments.request)?;
         Ok(self.output.end(alloc)?)
@@ -125,7 +126,7 @@ impl<R: Files + AllocGlobal + Input, O: Write, T: Write> Call<'_, R, O, T> {
         for name in &arguments.policies {
             self.compare_file(&settings, name.as_str(), &mut links)?;
         }
-        show_unmade(self.rt.alloc(), &arguments.links, &links, &mut self.output)?;
+        show_link_faults(self.rt.alloc(), &arguments.links, links, &mut self.output)?;
         Ok(self.output.end_changes(self.rt.alloc())?)
     }
 

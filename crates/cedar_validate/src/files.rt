@@ -6,7 +6,7 @@ use cedar_types::base::ValidatorSchema;
 use cedar_verdicts::data::DataKind;
 use cedar_verdicts::links::Links;
 use cedar_verdicts::shown::schemas::{SchemaFiles, Taken};
-use cedar_verdicts::shown::texts::{links_of, show_data};
+use cedar_verdicts::shown::texts::show_data;
 use std::io;
 use std::io::Write;
 use std::rt::Files;
@@ -50,14 +50,12 @@ impl<R: Files + AllocGlobal + Input, O: Write, T: Write> Call<'_, R, O, T> {
         Ok(files.schema(alloc, &mut self.output)?)
     }
 
-    /// The links of a file: none if no file is named, or if the file holds no links, which is shown.
+    /// The links of a file: none if no file is named, or if the file cannot be read.
     pub fn read_links(&mut self, name: &Option<String>) -> io::Result<Links> {
         let alloc = self.rt.alloc();
         if let Some(name) = name {
-            let name = name.as_str();
-            if let Some(text) = self.read_text(name)? {
-                let text = text.as_str();
-                return Ok(links_of(alloc, Source { name, text }, &mut self.output)?);
+            if let Some(text) = self.read_text(name.as_str())? {
+                return Ok(Links::read(alloc, text)?);
             }
         }
         Ok(Links::none(alloc))

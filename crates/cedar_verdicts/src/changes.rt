@@ -6,6 +6,7 @@ use crate::settings::Settings;
 use crate::texts::{PolicyText, PolicyVerdicts, Said};
 use cedar_findings::changes::{Change, Comparison};
 use cedar_findings::codes::Code;
+use cedar_findings::environment_changes::EnvironmentChanges;
 use cedar_findings::faults::TextFault;
 use cedar_findings::findings::{Finding, Requirement, Severity, Verdict};
 use cedar_types::base::{ArgumentCheck, ExtensionSchemas, Template};
@@ -45,26 +46,36 @@ fn rises(old: Requirement, new: Requirement) -> bool
     }
 }
 
-/// The changes for a policy from one verdict to the next. If memory is refused, the answer is an `AllocError`.
+/// The changes for a policy from one verdict to the next, and in the environments in which it may apply. If memory is refused,
+/// the answer is an `AllocError`.
 pub fn compare<'o, 'n>(
     alloc: Global,
     old: &'o Verdict,
     new: &'n Verdict,
+    environments: EnvironmentChanges,
 ) -> Result<Comparison<'o, 'n>, AllocError>
     ensures { IfOk result (λ it. it.is_worse ≡ is_worse_by old.now new.now) }
 {
     let is_worse = is_worse(old, new);
-    let changes = changes_between(alloc, old, new)?;
+    let mut changes = changes_between(alloc, old, new)?;
+    if !environments.gained.is_empty() {
+        changes.push(Change::Gained)?;
+    }
+    if !environments.lost.is_empty() {
+        changes.push(Change::Lost)?;
+    }
     let came = findings_without(alloc, new, old)?;
     let went = findings_without(alloc, old, new)?;
     Ok(Comparison {
         is_worse,
         changes,
+        environments,
         came,
         went,
     })
 }
 
+/// The changes that two verdicts tell. A refused policy is not evaluated, so it is not called possible.
 fn changes_between(alloc: Global, old: &Verdict, new: &Verdict) -> Result<Vec<Change>, AllocError> {
     let mut changes = Vec::new(alloc);
     match (old.is_accepted, new.is_accepted) {
@@ -74,7 +85,7 @@ fn changes_between(alloc: Global, old: &Verdict, new: &Verdict) -> Result<Vec<Ch
     }
     match (is_impossible(old), is_impossible(new)) {
         (false, true) => changes.push(Change::Impossible)?,
-        (true, false) => changes.push(Change::Possible)?,
+        (true, false) if new.is_accepted => changes.push(Change::Possible)?,
         _ => {}
     }
     if is_other_level(old.requirement, new.requirement) {

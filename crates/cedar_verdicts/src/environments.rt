@@ -1,7 +1,10 @@
 // Environments of an error, as a finding shows them.
 use cedar_typechecker::survey::{Environment, Environments, MAX_ENVIRONMENTS_LISTED};
-use cedar_types::base::EntityType;
+use cedar_types::base::{EntityType, EntityUID};
 use std::alloc::{AllocError, Global};
+
+/// The words for the environment of an action that the schema does not declare.
+pub const UNDECLARED: &str = "an action that is not declared";
 
 /// Environments of a finding that does not hold in all applicable ones: the first few, at most as many as a survey lists for an
 /// error, and the number of the others.
@@ -52,14 +55,27 @@ impl ShownEnvironments {
 /// An environment's action with the types of the principal and of the resource, and the types that slots are linked to.
 fn environment_shown(alloc: Global, environment: &Environment) -> Result<String, AllocError> {
     let Some(request) = &environment.request else {
-        return String::from_str(alloc, "an action that is not declared");
+        return String::from_str(alloc, UNDECLARED);
     };
-    let principal = &request.principal;
-    let resource = &request.resource;
-    let mut shown = format!(in alloc; "{} by {principal} on {resource}", request.action)?;
+    let mut shown = request_shown(
+        alloc,
+        &request.action,
+        &request.principal,
+        &request.resource,
+    )?;
     push_slot(&mut shown, "?principal", &environment.principal_slot)?;
     push_slot(&mut shown, "?resource", &environment.resource_slot)?;
     Ok(shown)
+}
+
+/// An action with the types of its principal and its resource.
+pub fn request_shown(
+    alloc: Global,
+    action: &EntityUID,
+    principal: &EntityType,
+    resource: &EntityType,
+) -> Result<String, AllocError> {
+    format!(in alloc; "{action} by {principal} on {resource}")
 }
 
 fn push_slot(

@@ -2,6 +2,7 @@
 //! library reads no file and writes nothing.
 #![tactic(auto)]
 
+mod applied;
 pub mod call_ids;
 mod causes;
 pub mod changes;
@@ -12,6 +13,7 @@ mod errors;
 mod found;
 mod ids;
 mod impossible;
+pub mod link_faults;
 pub mod links;
 pub mod parses;
 pub mod policies;
@@ -20,6 +22,7 @@ pub mod schemas;
 pub mod sets;
 pub mod settings;
 pub mod shown;
+pub mod slots;
 pub mod texts;
 pub mod verdicts;
 mod warnings;

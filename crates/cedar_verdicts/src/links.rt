@@ -1,24 +1,21 @@
 //! Links of templates in a file of their own: a list of objects with `template_id`, `link_id` and `args`.
-ghost use Rattle.std.specs.Prelude.{◌≡◌, ◌&&◌, true, false, is_some, IfOk, IfSome};
-ghost use Rattle.cedar_types.specs.Names.{text_of};
-ghost use Rattle.cedar_types.specs.Templates.{reference_of, scope_of, template_of};
-ghost use Rattle.cedar_verdicts.specs.Links.{bound, filled, fits, fits_in, linked};
+ghost use Rattle.std.specs.Prelude.{false, IfOk};
+ghost use Rattle.cedar_types.specs.Templates.{template_of};
 ghost use Rattle.cedar_verdicts.specs.Verdicts.{basis_of, IsRightVerdict, IsWholeVerdict};
 
+use crate::link_faults::LinkFaults;
 use crate::settings::Settings;
+use crate::slots::{Bound, has_slots, without_place};
 use crate::verdicts::judge;
-use cedar_findings::faults::{TextFault, Written};
+use cedar_findings::faults::Written;
 use cedar_findings::findings::Verdict;
 use cedar_findings::json_faults::form_fault;
 use cedar_findings::syntaxes::Syntax;
-use cedar_json::{FormError, Object, Value, expected, items_of, text_of, value_alone};
+use cedar_json::{FormError, Items, Object, Value, expected, items_of, text_of, value_alone};
 use cedar_reading::{ReadError, uid_alone};
-use cedar_types::base::{
-    ArgumentCheck, EntityReference, EntityType, EntityUID, Loc, PolicyID,
-    PrincipalOrResourceConstraint, Template,
-};
+use cedar_types::base::{ArgumentCheck, EntityUID, Loc, Template};
 use std::alloc::{AllocError, Global};
-use std::collections::BTreeSet;
+use std::collections::BTreeMap;
 use std::rc::RcStr;
 
 /// The expected form of a slot's value.
@@ -30,6 +27,8 @@ enum State {
     /// No policy has the id of the link's template.
     Waiting,
     Linked,
+    /// The policy with the id of the link's template has no slots.
+    NoTemplate,
     /// The link's template lacks a slot that the link binds, or has one that it does not bind.
     Unfit,
     /// A policy or an earlier link has the id of the link.
@@ -48,141 +47,163 @@ struct Word {
 struct Link {
     id: Word,
     template: Word,
-    principal: Option<EntityUID>,
-    resource: Option<EntityUID>,
+    bound: Bound,
     state: State,
 }
 
-/// The links of a text, in its order.
+/// The links of a text, in its order, and the faults of its items that are no links.
 #[derive(Drop)]
 pub struct Links {
-    text: String,
     links: Vec<Link>,
+    /// The number of the first link of each id.
+    by_id: BTreeMap<RcStr, usize>,
+    /// The numbers of the links of each template that was not met yet.
+    by_template: BTreeMap<RcStr, Vec<usize>>,
+    faults: LinkFaults,
 }
 
 impl Links {
     /// No links.
     pub fn none(alloc: Global) -> Links {
         Links {
-            text: String::new(alloc),
             links: Vec::new(alloc),
+            by_id: BTreeMap::new(alloc),
+            by_template: BTreeMap::new(alloc),
+            faults: LinkFaults::none(alloc),
         }
     }
 
-    /// The links of a text, or its first fault. If memory is refused, the answer is an `AllocError`.
-    pub fn read(alloc: Global, text: &str) -> Result<Result<Links, TextFault>, AllocError> {
-        match read_links(alloc, text) {
-            Ok(links) => {
-                let text = String::from_str(alloc, text)?;
-                Ok(Ok(Links { text, links }))
+    /// The links of a text. An item that is no link is a fault, and costs itself alone. If the text is no JSON, the links before
+    /// the fault are kept. If memory is refused, the answer is an `AllocError`.
+    pub fn read(alloc: Global, text: String) -> Result<Links, AllocError> {
+        let mut links = Links::none(alloc);
+        if let Err(error) = links.add_items(alloc, text.as_str()) {
+            let fault = form_fault(alloc, Written::Policies, text.as_str(), error)?;
+            links.faults.add(fault)?;
+        }
+        links.faults.text = text;
+        Ok(links)
+    }
+
+    /// Adds the items of a list, up to the first fault of the text.
+    fn add_items(&mut self, alloc: Global, text: &str) -> Result<(), FormError> {
+        let Some(mut items) = Items::new(alloc, text)? else {
+            items_of(&value_alone(alloc, text)?)?;
+            return Ok(());
+        };
+        for _ in 0..text.len() {
+            let Some(item) = items.next_item()? else {
+                break;
+            };
+            self.add_item(alloc, text, &item)?;
+        }
+        Ok(())
+    }
+
+    /// Adds a link, or the fault of an item that is none.
+    fn add_item(&mut self, alloc: Global, text: &str, item: &Value) -> Result<(), AllocError> {
+        match read_link(alloc, item) {
+            Ok(link) => self.add(alloc, link),
+            Err(error) => {
+                let fault = form_fault(alloc, Written::Policies, text, error)?;
+                self.faults.add(fault)
             }
-            Err(error) => Ok(Err(form_fault(alloc, Written::Policies, text, error)?)),
         }
     }
 
-    /// The text of the links.
-    pub fn text(&self) -> &str {
-        self.text.as_str()
+    fn add(&mut self, alloc: Global, mut link: Link) -> Result<(), AllocError> {
+        let number = self.links.len();
+        if self.by_id.get(&link.id.text).is_some() {
+            link.state = State::Taken;
+        } else {
+            self.by_id.insert(link.id.text.clone()?, number)?;
+        }
+        match self.by_template.get_mut(&link.template.text) {
+            Some(numbers) => numbers.push(number)?,
+            None => {
+                let numbers = vec![in alloc; number]?;
+                self.by_template
+                    .insert(link.template.text.clone()?, numbers)?;
+            }
+        }
+        self.links.push(link)?;
+        Ok(())
     }
 
-    /// The policies that link this template, each under its own id, at the template's place. Takes note of the template's id,
+    /// The numbers of the links that name this policy as their template, for the first policy of an id. Takes note of the id,
     /// because no link may have it.
-    pub fn of_policy(
-        &mut self,
-        alloc: Global,
-        policy: &Template,
-    ) -> Result<Vec<Template>, AllocError> {
-        let mut linked = Vec::new(alloc);
-        let id = policy.id.text.as_str();
-        for link in self.links.iter_mut() {
-            if link.id.text.as_str() == id {
+    pub fn numbers_of(&mut self, alloc: Global, policy: &Template) -> Vec<usize> {
+        let id = &policy.id.text;
+        if let Some(number) = self.by_id.get(id) {
+            if let Some(link) = self.links.get_mut(*number) {
                 link.state = State::Taken;
             }
-            if link.template.text.as_str() == id && link.state == State::Waiting {
-                if let Some(template) = link.apply(alloc, policy)? {
-                    linked.push(template)?;
-                }
-            }
         }
-        Ok(linked)
+        self.by_template.remove(id).unwrap_or(Vec::new(alloc))
     }
 
-    /// The faults of the links after all policies are met: one for each link that made no policy, or whose id a policy or an
-    /// earlier link has.
-    pub fn faults(&self, alloc: Global) -> Result<Vec<TextFault>, AllocError> {
-        let mut faults = Vec::new(alloc);
-        for link in &self.links {
-            let (word, why) = match link.state {
-                State::Linked => continue,
-                State::Waiting => (&link.template, "no policy has this id"),
-                State::Unfit => (&link.id, "the link does not bind the slots of its template"),
-                State::Taken => (&link.id, "a policy or another link has this id"),
-            };
-            let text = String::from_str(alloc, why)?;
-            let place = word.place;
-            faults.push(TextFault { place, text })?;
+    /// The policy that the link of this number makes of its template, under its own id and at the template's place. It is
+    /// `None` if the link makes no policy, and `into_faults` tells why.
+    pub fn link(
+        &mut self,
+        alloc: Global,
+        number: usize,
+        template: &Template,
+    ) -> Result<Option<Template>, AllocError> {
+        let Some(link) = self.links.get_mut(number) else {
+            return Ok(None);
+        };
+        if link.state != State::Waiting {
+            return Ok(None);
         }
+        if !has_slots(template) {
+            link.state = State::NoTemplate;
+            return Ok(None);
+        }
+        let made = link.bound.link(alloc, link.id.text.as_str(), template)?;
+        link.state = if made.is_some() {
+            State::Linked
+        } else {
+            State::Unfit
+        };
+        Ok(made)
+    }
+
+    /// The faults of the links after all policies are met: those of items that are no links, and one for each link that made no
+    /// policy, or whose id a policy or an earlier link has.
+    pub fn into_faults(self, alloc: Global) -> Result<LinkFaults, AllocError> {
+        let Links {
+            links,
+            mut faults,
+            ..
+        } = self;
+        let mut unmade = Vec::new(alloc);
+        for link in &links {
+            if let Some((word, why)) = link.fault() {
+                unmade.push((word.place, why))?;
+            }
+        }
+        faults.join(alloc, unmade.as_slice())?;
         Ok(faults)
     }
 }
 
 impl Link {
-    /// The template with its slots bound, and the id of the link (clause `linked`). There is a policy exactly if the link binds
-    /// the slots that the template has (clause `exact`).
-    fn apply(&mut self, alloc: Global, template: &Template) -> Result<Option<Template>, AllocError>
-        ensures exact { IfOk result (λ made. is_some made
-            ≡ (fits_in self.old.principal (scope_of template.now.principal_constraint.constraint)
-            && fits_in self.old.resource (scope_of template.now.resource_constraint.constraint))) }
-        ensures linked { IfOk result (λ made. IfSome made (λ t. template_of t
-            ≡ linked (text_of self.old.id.text) self.old.principal self.old.resource
-            (template_of template.now))) }
-    {
-        let mut linked = template.try_clone(alloc)?;
-        let principal = &mut linked.principal_constraint.constraint;
-        let fits_principal = bind(principal, &self.principal)?;
-        let resource = &mut linked.resource_constraint.constraint;
-        let fits_resource = bind(resource, &self.resource)?;
-        if !fits_principal || !fits_resource {
-            self.state = State::Unfit;
-            return Ok(None);
+    /// The text of a link at which it has a fault, and the fault, if it has one.
+    fn fault(&self) -> Option<(&Word, &'static str)> {
+        match self.state {
+            State::Linked => None,
+            State::Waiting => Some((&self.template, "no policy has this id")),
+            State::NoTemplate => {
+                Some((
+                    &self.template,
+                    "the policy of this id has no slots, so it is no template",
+                ))
+            }
+            State::Unfit => { Some((&self.id, "the link does not bind the slots of its template")) }
+            State::Taken => Some((&self.id, "a policy or another link has this id")),
         }
-        linked.id = PolicyID::from_string(alloc, self.id.text.as_str())?;
-        self.state = State::Linked;
-        Ok(Some(linked))
     }
-}
-
-/// Binds the slot of a constraint. The answer tells whether the constraint has a slot exactly if an entity is bound.
-fn bind(
-    constraint: &mut PrincipalOrResourceConstraint,
-    uid: &Option<EntityUID>,
-) -> Result<bool, AllocError>
-    ensures exact { IfOk result (λ it. it ≡ fits_in uid.now (scope_of constraint.old)) }
-    ensures bound { IfOk result (λ it. it ≡ true
-        → scope_of constraint.new ≡ bound uid.now (scope_of constraint.old)) }
-{
-    match constraint {
-        PrincipalOrResourceConstraint::Eq(reference) => fill(reference, uid),
-        PrincipalOrResourceConstraint::In(reference) => fill(reference, uid),
-        PrincipalOrResourceConstraint::IsIn(_, reference) => fill(reference, uid),
-        PrincipalOrResourceConstraint::Any => Ok(uid.is_none()),
-        PrincipalOrResourceConstraint::Is(_) => Ok(uid.is_none()),
-    }
-}
-
-fn fill(reference: &mut EntityReference, uid: &Option<EntityUID>) -> Result<bool, AllocError>
-    ensures exact { IfOk result (λ it. it ≡ fits uid.now (reference_of reference.old)) }
-    ensures filled { IfOk result (λ it. it ≡ true
-        → reference_of reference.new ≡ filled uid.now (reference_of reference.old)) }
-{
-    let is_slot = matches!(reference, EntityReference::Slot);
-    if let Some(uid) = uid {
-        if is_slot {
-            *reference = EntityReference::EUID(uid.clone()?);
-        }
-        return Ok(is_slot);
-    }
-    Ok(!is_slot)
 }
 
 /// The verdict on a policy that links a template of this text, as `judge` gives it. Hints take their examples from the text,
@@ -205,20 +226,6 @@ pub fn judge_link<C: ArgumentCheck>(
     judge(alloc, settings, examples, policy)
 }
 
-fn read_links(alloc: Global, text: &str) -> Result<Vec<Link>, FormError> {
-    let root = value_alone(alloc, text)?;
-    let mut ids = BTreeSet::new(alloc);
-    let mut links = Vec::new(alloc);
-    for item in items_of(&root)? {
-        let mut link = read_link(alloc, item)?;
-        if !ids.insert(link.id.text.clone()?)? {
-            link.state = State::Taken;
-        }
-        links.push(link)?;
-    }
-    Ok(links)
-}
-
 fn read_link(alloc: Global, item: &Value) -> Result<Link, FormError> {
     let object = Object::of(item)?;
     object.allow(&["template_id", "link_id", "args"])?;
@@ -226,11 +233,14 @@ fn read_link(alloc: Global, item: &Value) -> Result<Link, FormError> {
     let id = read_word(alloc, object.need("link_id")?)?;
     let slots = Object::of(object.need("args")?)?;
     slots.allow(&["?principal", "?resource"])?;
+    let bound = Bound {
+        principal: read_uid(alloc, slots.get("?principal"))?,
+        resource: read_uid(alloc, slots.get("?resource"))?,
+    };
     Ok(Link {
         id,
         template,
-        principal: read_uid(alloc, slots.get("?principal"))?,
-        resource: read_uid(alloc, slots.get("?resource"))?,
+        bound,
         state: State::Waiting,
     })
 }
@@ -246,12 +256,9 @@ fn read_uid(alloc: Global, value: Option<&Value>) -> Result<Option<EntityUID>, F
     let Some(value) = value else {
         return Ok(None);
     };
-    let read = match uid_alone(alloc, text_of(value)?) {
-        Ok(read) => read,
-        Err(ReadError::Memory(error)) => return Err(FormError::Memory(error)),
-        Err(ReadError::At(_, _)) => return Err(expected(value, ID)),
-    };
-    let own_type = EntityType::new(read.entity_type.name.clone()?, None);
-    let uid = EntityUID::from_components(alloc, own_type, read.eid.as_str(), None)?;
-    Ok(Some(uid))
+    match uid_alone(alloc, text_of(value)?) {
+        Ok(read) => Ok(Some(without_place(alloc, &read)?)),
+        Err(ReadError::Memory(error)) => Err(FormError::Memory(error)),
+        Err(ReadError::At(_, _)) => Err(expected(value, ID)),
+    }
 }

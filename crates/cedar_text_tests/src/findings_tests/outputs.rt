@@ -3,6 +3,7 @@ use cedar_findings::arguments::Task;
 use cedar_findings::changes::{Change, Comparison};
 use cedar_findings::colours::Colours;
 use cedar_findings::columns::Columns;
+use cedar_findings::environment_changes::EnvironmentChanges;
 use cedar_findings::faults::TextFault;
 use cedar_findings::formats::Format;
 use cedar_findings::outputs::Output;
@@ -141,6 +142,10 @@ fn comparison<'a>(alloc: Global, is_worse: bool) -> Result<Comparison<'a, 'a>, A
     Ok(Comparison {
         is_worse,
         changes: vec![in alloc; Change::Level]?,
+        environments: EnvironmentChanges {
+            gained: Vec::new(alloc),
+            lost: Vec::new(alloc),
+        },
         came: Vec::new(alloc),
         went: Vec::new(alloc),
     })

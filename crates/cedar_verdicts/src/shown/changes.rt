@@ -1,4 +1,5 @@
 //! Changes for the policies of a file from one schema to another, as an output shows them.
+use crate::applied::environment_changes;
 use crate::changes::{Compared, Comparisons, compare};
 use crate::links::{Links, judge_link};
 use crate::settings::Settings;
@@ -67,27 +68,42 @@ impl<'a> ShownChanges<'a> {
         match next {
             Compared::Fault(fault) => output.add_fault(alloc, self.report.source(), &fault)?,
             Compared::Verdicts(policy, was, is) => {
-                self.show_change(alloc, &policy, (&was, &is), output)?;
-                for linked in &links.of_policy(alloc, &policy)? {
-                    let text = self.report.source().text;
-                    let was = judge_link(alloc, old, text, linked)?;
-                    let is = judge_link(alloc, new, text, linked)?;
-                    self.show_change(alloc, linked, (&was, &is), output)?;
+                self.show_change(alloc, settings, &policy, (&was, &is), output)?;
+                for number in links.numbers_of(alloc, &policy) {
+                    if let Some(linked) = links.link(alloc, number, &policy)? {
+                        self.show_link(alloc, settings, &linked, output)?;
+                    }
                 }
             }
         }
         Ok(true)
     }
 
-    /// Counts a policy, and shows the changes between these verdicts, if there are any.
-    fn show_change(
+    /// Judges a policy that links a template by both settings, and shows its changes.
+    fn show_link<C: ArgumentCheck>(
         &mut self,
         alloc: Global,
+        settings: &BothSettings<'_, C>,
+        linked: &Template,
+        output: &mut Output,
+    ) -> Result<(), AllocError> {
+        let text = self.report.source().text;
+        let was = judge_link(alloc, &settings.old, text, linked)?;
+        let is = judge_link(alloc, &settings.new, text, linked)?;
+        self.show_change(alloc, settings, linked, (&was, &is), output)
+    }
+
+    /// Counts a policy, and shows the changes between these verdicts, if there are any.
+    fn show_change<C: ArgumentCheck>(
+        &mut self,
+        alloc: Global,
+        settings: &BothSettings<'_, C>,
         policy: &Template,
         verdicts: (&Verdict, &Verdict),
         output: &mut Output,
     ) -> Result<(), AllocError> {
-        let comparison = compare(alloc, verdicts.0, verdicts.1)?;
+        let environments = environment_changes(alloc, &settings.old, &settings.new, policy)?;
+        let comparison = compare(alloc, verdicts.0, verdicts.1, environments)?;
         output.changes.add(&comparison);
         let format = &mut output.format;
         let shown = self

@@ -78,13 +78,34 @@ impl<'a> ShownPolicies<'a> {
             }
             Said::Verdict(policy, verdict) => {
                 self.show_policy(alloc, &policy, verdict, shared, output)?;
-                for linked in &shared.links.of_policy(alloc, &policy)? {
-                    let verdict = judge_link(alloc, settings, self.source.text, linked)?;
-                    self.show_policy(alloc, linked, verdict, shared, output)?;
-                }
+                self.show_links(alloc, settings, &policy, shared, output)?;
             }
         }
         Ok(true)
+    }
+
+    /// Judges and shows the policies that link a template, one after another.
+    fn show_links<C: ArgumentCheck>(
+        &mut self,
+        alloc: Global,
+        settings: &Settings<'_, C>,
+        template: &Template,
+        shared: &mut Shared,
+        output: &mut Output,
+    ) -> Result<(), AllocError> {
+        let numbers = shared.links.numbers_of(alloc, template);
+        if numbers.is_empty() {
+            return Ok(());
+        }
+        // each link goes back to the place of its template
+        self.report.index_places()?;
+        for number in numbers {
+            if let Some(linked) = shared.links.link(alloc, number, template)? {
+                let verdict = judge_link(alloc, settings, self.source.text, &linked)?;
+                self.show_policy(alloc, &linked, verdict, shared, output)?;
+            }
+        }
+        Ok(())
     }
 
     /// Counts and shows a policy.

@@ -28,37 +28,24 @@ pub fn show_parsed(
     Ok(())
 }
 
-/// The links of a file: none if it has a fault, which is shown.
-pub fn links_of(
-    alloc: Global,
-    source: Source<'_>,
-    output: &mut Output,
-) -> Result<Links, AllocError> {
-    match Links::read(alloc, source.text)? {
-        Ok(links) => Ok(links),
-        Err(fault) => {
-            output.add_fault(alloc, source, &fault)?;
-            Ok(Links::none(alloc))
-        }
-    }
-}
-
-/// Shows the faults of the links in the file of this name, if there is one.
-pub fn show_unmade(
+/// Shows the faults of the links in the file of this name, if there is one, and counts all of them.
+pub fn show_link_faults(
     alloc: Global,
     name: &Option<String>,
-    links: &Links,
+    links: Links,
     output: &mut Output,
 ) -> Result<(), AllocError> {
     let Some(name) = name else {
         return Ok(());
     };
+    let faults = links.into_faults(alloc)?;
     let source = Source {
         name: name.as_str(),
-        text: links.text(),
+        text: faults.text.as_str(),
     };
-    for fault in &links.faults(alloc)? {
-        output.add_fault(alloc, source, fault)?;
+    output.add_faults(alloc, source, faults.listed.as_slice())?;
+    if faults.others > 0 {
+        output.add_others(alloc, source.name, faults.others)?;
     }
     Ok(())
 }

@@ -1,5 +1,7 @@
 // Comparisons of two verdicts on a policy.
+use cedar_findings::changes::Change;
 use cedar_findings::codes::Code;
+use cedar_findings::environment_changes::EnvironmentChanges;
 use cedar_findings::findings::{Finding, Requirement, Verdict};
 use cedar_types::base::EntityDerefLevel;
 use cedar_verdicts::changes::{compare, is_worse};
@@ -44,7 +46,7 @@ fn finding(alloc: Global, code: Code) -> Result<Finding, AllocError> {
 }
 
 /// Two verdicts, whether the second is worse, the number of changes, and the numbers of findings that came and went.
-const CASES: [(&str, &str, bool, usize, usize, usize); 18] = [
+const CASES: [(&str, &str, bool, usize, usize, usize); 20] = [
     ("+1", "+1", false, 0, 0, 0),
     ("+1", "-", true, 1, 0, 0),
     ("-", "+1", false, 1, 0, 0),
@@ -60,10 +62,20 @@ const CASES: [(&str, &str, bool, usize, usize, usize); 18] = [
     ("+i0", "+i0", false, 0, 0, 0),
     ("+0", "+w0", false, 0, 1, 0),
     ("+i1", "-i", true, 1, 0, 0),
+    // a refused policy is not called possible
+    ("+i1", "-", true, 1, 0, 1),
+    ("-i", "-", false, 0, 0, 1),
     ("-", "+i2", false, 2, 1, 0),
     ("-1", "-2", false, 1, 0, 0),
     ("-", "-i", false, 1, 1, 0),
 ];
+
+fn no_environments(alloc: Global) -> EnvironmentChanges {
+    EnvironmentChanges {
+        gained: Vec::new(alloc),
+        lost: Vec::new(alloc),
+    }
+}
 
 #[test]
 fn what_is_worse(rt: HostRuntime) -> Result<(), Fail> {
@@ -72,11 +84,43 @@ fn what_is_worse(rt: HostRuntime) -> Result<(), Fail> {
         let before = verdict_of(alloc, old)?;
         let after = verdict_of(alloc, new)?;
         assert_eq!(rt; is_worse(&before, &after), *worse, "{old} {new}");
-        let comparison = compare(alloc, &before, &after)?;
+        let comparison = compare(alloc, &before, &after, no_environments(alloc))?;
         assert_eq!(rt; comparison.is_worse, *worse, "{old} {new}");
         assert_eq!(rt; comparison.changes.len(), *changes, "{old} {new}");
         assert_eq!(rt; comparison.came.len(), *came, "{old} {new}");
         assert_eq!(rt; comparison.went.len(), *went, "{old} {new}");
+    }
+    Ok(())
+}
+
+/// Whether environments are gained and lost, and the changes that tell so. A policy is not worse off by them.
+const ENVIRONMENTS: [(bool, bool, &[Change]); 4] = [
+    (false, false, &[]),
+    (true, false, &[Change::Gained]),
+    (false, true, &[Change::Lost]),
+    (true, true, &[Change::Gained, Change::Lost]),
+];
+
+#[test]
+fn other_environments(rt: HostRuntime) -> Result<(), Fail> {
+    let alloc = rt.alloc();
+    for (gains, loses, changes) in &ENVIRONMENTS {
+        let verdict = verdict_of(alloc, "+1")?;
+        let mut environments = no_environments(alloc);
+        if *gains {
+            environments.gained.push(String::from_str(alloc, "a")?)?;
+        }
+        if *loses {
+            environments.lost.push(String::from_str(alloc, "b")?)?;
+        }
+        let comparison = compare(alloc, &verdict, &verdict, environments)?;
+        assert_eq!(rt; comparison.changes.as_slice(), *changes, "{gains} {loses}");
+        assert_eq!(rt;
+            comparison.is_empty(),
+            changes.is_empty(),
+            "{gains} {loses}"
+        );
+        assert!(rt; !comparison.is_worse, "{gains} {loses}");
     }
     Ok(())
 }

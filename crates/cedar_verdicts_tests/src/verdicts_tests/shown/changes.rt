@@ -23,6 +23,12 @@ entity Photo;
 action view appliesTo { principal: User, resource: Photo };
 ";
 
+/// Bots view too, and photos can be edited.
+const WIDER: &str = "entity User { age: Long };
+entity Photo { public: Bool }; entity Bot;
+action view, edit appliesTo { principal: [User, Bot], resource: Photo };
+";
+
 /// A policy that both accept, one that the newer schema refuses, one that cannot be read, and a template with such a condition.
 const POLICIES: &str = "@id(\"kept\") permit(principal, action, resource);
 @id(\"loses\") permit(principal, action, resource) when { resource.public };
@@ -59,9 +65,7 @@ fn add_changes(
 fn shown_by(alloc: Global, old: ValidatorSchema, new: ValidatorSchema) -> Result<String, Fail> {
     let mut lines = String::new(alloc);
     let functions = cedar_functions(alloc)?;
-    let Ok(mut links) = Links::read(alloc, LINKS)? else {
-        return Ok(lines);
-    };
+    let mut links = Links::read(alloc, String::from_str(alloc, LINKS)?)?;
     let old = Validator::new(old, &functions);
     let new = Validator::new(new, &functions);
     let settings = BothSettings {
@@ -71,7 +75,7 @@ fn shown_by(alloc: Global, old: ValidatorSchema, new: ValidatorSchema) -> Result
     let mut output = Output::new(alloc, Colours::None);
     add_changes(alloc, &settings, &mut links, &mut output)?;
     for line in output.shown().lines() {
-        if !line.starts_with(' ') {
+        if !line.contains(" | ") {
             writeln!(lines, "{line}")?;
         }
     }
@@ -88,7 +92,7 @@ fn strict<'a>(validator: &'a Validator<'a>) -> Settings<'a> {
 }
 
 /// The first schema, the second, and the shown lines.
-const CASES: [(&str, &str, &str); 3] = [
+const CASES: [(&str, &str, &str); 5] = [
     (
         OLD,
         OLD,
@@ -118,6 +122,47 @@ const CASES: [(&str, &str, &str); 3] = [
          p:4:1: policy `l`: newly accepted\n\
          p:4:67: gone: error: attribute `public` does not exist on `Photo`\n\
          policies: 4, changed: 3, worse: 0, faults: 1\n",
+    ),
+    // the link names a user, so it does not apply to bots
+    (
+        OLD,
+        WIDER,
+        "p:1:1: policy `kept`: new environments\n  \
+           newly for Action::\"edit\" by Bot on Photo\n  \
+           newly for Action::\"edit\" by User on Photo\n  \
+           newly for Action::\"view\" by Bot on Photo\n\
+         p:2:1: policy `loses`: new environments\n  \
+           newly for Action::\"edit\" by Bot on Photo\n  \
+           newly for Action::\"edit\" by User on Photo\n  \
+           newly for Action::\"view\" by Bot on Photo\n\
+         p:3:17: fault: `,` is expected, where `)` is read\n\
+         p:4:1: policy `t`: new environments\n  \
+           newly for Action::\"edit\" by Bot on Photo\n  \
+           newly for Action::\"edit\" by User on Photo\n  \
+           newly for Action::\"view\" by Bot on Photo\n\
+         p:4:1: policy `l`: new environments\n  \
+           newly for Action::\"edit\" by User on Photo\n\
+         policies: 4, changed: 4, worse: 0, faults: 1\n",
+    ),
+    (
+        WIDER,
+        OLD,
+        "p:1:1: policy `kept`: lost environments\n  \
+           no longer for Action::\"edit\" by Bot on Photo\n  \
+           no longer for Action::\"edit\" by User on Photo\n  \
+           no longer for Action::\"view\" by Bot on Photo\n\
+         p:2:1: policy `loses`: lost environments\n  \
+           no longer for Action::\"edit\" by Bot on Photo\n  \
+           no longer for Action::\"edit\" by User on Photo\n  \
+           no longer for Action::\"view\" by Bot on Photo\n\
+         p:3:17: fault: `,` is expected, where `)` is read\n\
+         p:4:1: policy `t`: lost environments\n  \
+           no longer for Action::\"edit\" by Bot on Photo\n  \
+           no longer for Action::\"edit\" by User on Photo\n  \
+           no longer for Action::\"view\" by Bot on Photo\n\
+         p:4:1: policy `l`: lost environments\n  \
+           no longer for Action::\"edit\" by User on Photo\n\
+         policies: 4, changed: 4, worse: 0, faults: 1\n",
     ),
 ];
 

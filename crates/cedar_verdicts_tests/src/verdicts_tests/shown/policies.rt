@@ -23,9 +23,12 @@ permit(principal);
 /// A policy with an id of the other file.
 const SECOND: &str = "@id(\"a\") permit(principal, action, resource);\n";
 
-/// Two links of the template, one with a principal type that does not fit the action, and a link of no policy.
+/// Two links of the template, and between them items that make no policy: a link of no policy, no link, a link of a policy
+/// without slots, and a link whose id another one has.
 const LINKS: &str = r#"[{"template_id": "t", "link_id": "l", "args": {"?principal": "User::\"u\""}},
-{"template_id": "gone", "link_id": "m", "args": {}}]"#;
+{"template_id": "gone", "link_id": "m", "args": {}}, null,
+{"template_id": "a", "link_id": "n", "args": {}}, {"template_id": "t", "link_id": "l", "args": {}},
+{"template_id": "t", "link_id": "k", "args": {"?principal": "User::\"v\""}}]"#;
 
 /// Adds the shown policies of a file.
 fn add_file(
@@ -88,21 +91,20 @@ fn shown_of(
 #[test]
 fn policies_and_links(rt: HostRuntime) -> Result<(), Fail> {
     let alloc = rt.alloc();
-    let Ok(links) = Links::read(alloc, LINKS)? else {
-        panic!(rt; "there are links");
-    };
+    let links = Links::read(alloc, String::from_str(alloc, LINKS)?)?;
     let shared = Shared { ids: None, links };
     let shown = shown_of(alloc, false, shared, &[("f", FIRST), ("g", SECOND)])?;
     assert_eq!(rt;
         shown.as_str(),
         "f:1:1: policy `t`: accepted, level 0\n\
          f:1:1: policy `l`: accepted, level 0\n\
+         f:1:1: policy `k`: accepted, level 0\n\
          f:2:1: policy `a`: accepted, level 1\n\
          f:3:17: fault: `,` is expected, where `)` is read\n\
          f:4:1: policy `r`: refused\n\
          f:4:53: error: attribute `nope` does not exist on `User`\n\
          g:1:1: policy `a`: accepted, level 0\n\
-         policies: 5, accepted: 4, refused: 1, warnings: 0, faults: 1, level 1\n"
+         policies: 6, accepted: 5, refused: 1, warnings: 0, faults: 1, level 1\n"
     );
     Ok(())
 }

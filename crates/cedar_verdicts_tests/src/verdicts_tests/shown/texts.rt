@@ -4,7 +4,8 @@ use cedar_findings::colours::Colours;
 use cedar_findings::outputs::Output;
 use cedar_findings::sources::Source;
 use cedar_verdicts::data::DataKind;
-use cedar_verdicts::shown::texts::{links_of, show_data, show_parsed, show_unmade};
+use cedar_verdicts::links::Links;
+use cedar_verdicts::shown::texts::{show_data, show_link_faults, show_parsed};
 use std::alloc::Global;
 use std::test::Fail;
 
@@ -76,13 +77,69 @@ fn links(rt: HostRuntime) -> Result<(), Fail> {
             r#"[{"template_id": "t"}]"#,
             "f:1:2: fault: the key `link_id` is missing\n",
         ),
+        (
+            "{}",
+            "f:1:1: fault: a list is expected, where `{` is read\n",
+        ),
+        // an item that is no link costs itself alone, and what no text of JSON follows is kept
+        (
+            r#"[{"template_id": "t", "link_id": "l", "args": {}}, 1, {"template_id": "s", "link_id": "m", "args": {}}]"#,
+            "f:1:18: fault: no policy has this id\n\
+             f:1:52: fault: an object is expected, where `1` is read\n\
+             f:1:71: fault: no policy has this id\n",
+        ),
+        (
+            r#"[{"template_id": "t", "link_id": "l", "args": {}}, x"#,
+            "f:1:18: fault: no policy has this id\n\
+             f:1:52: fault: a value is expected, where `x` is read\n",
+        ),
     ] {
         let mut output = Output::new(alloc, Colours::None);
-        let links = links_of(alloc, file(text), &mut output)?;
-        show_unmade(alloc, &name, &links, &mut output)?;
+        let links = Links::read(alloc, String::from_str(alloc, text)?)?;
+        show_link_faults(alloc, &name, links, &mut output)?;
         let lines = lines_of(alloc, &output)?;
         assert_eq!(rt; lines.as_str(), wanted, "{text}");
         assert_eq!(rt; output.totals.faults > 0, !wanted.is_empty(), "{text}");
+    }
+    Ok(())
+}
+
+/// A hundred faults of a file of links are shown, the first ones by their places, and all are counted. Items that are no links
+/// and links without a template alternate here.
+#[test]
+fn many_faults_of_links(rt: HostRuntime) -> Result<(), Fail> {
+    let alloc = rt.alloc();
+    let name = Some(String::from_str(alloc, "f")?);
+    for (count, shown, last) in [
+        (
+            50,
+            100,
+            "f:100:2: fault: an object is expected, where `1` is read",
+        ),
+        (51, 101, "f: fault: 2 more faults"),
+        (500, 101, "f: fault: 900 more faults"),
+    ] {
+        let mut text = String::from_str(alloc, "[")?;
+        for number in 0..count {
+            let comma = if number == 0 { " " } else { "," };
+            writeln!(
+                text,
+                r#"{comma}{{"template_id": "t", "link_id": "l{number}", "args": {{}}}}"#
+            )?;
+            text.push_str(",1\n")?;
+        }
+        text.push_str("]")?;
+        let mut output = Output::new(alloc, Colours::None);
+        let links = Links::read(alloc, text)?;
+        show_link_faults(alloc, &name, links, &mut output)?;
+        let lines = lines_of(alloc, &output)?;
+        assert_eq!(rt; lines.as_str().lines().count(), shown, "{count}");
+        assert_eq!(rt;
+            lines.as_str().lines().next_back().unwrap_or(""),
+            last,
+            "{count}"
+        );
+        assert_eq!(rt; output.totals.faults, 2 * count, "{count}");
     }
     Ok(())
 }
