@@ -1,5 +1,6 @@
 //! Colours of the kinds of findings, in lines for people.
 use crate::escapes::Shown;
+use crate::texts::push_all;
 use std::alloc::{AllocError, Global};
 use std::env::VarError;
 
@@ -63,8 +64,7 @@ fn push_line(shown: &mut String, file: &str, line: &str) -> Result<(), AllocErro
     let before = line.get(..kind.start).unwrap_or("");
     let behind = line.get(kind.start..).unwrap_or("");
     let behind = behind.strip_prefix(kind.text).unwrap_or("");
-    let text = kind.text;
-    write!(shown, "{before}{colour}{text}{END}{behind}")
+    push_all(shown, &[before, colour, kind.text, END, behind])
 }
 
 /// A kind, and the byte of its line at which it stands.

@@ -1,7 +1,7 @@
 //! Scripts that complete the words of the program in a shell. They are made of the table of words.
-use crate::help::{push_names, push_texts};
 use crate::options::{Asks, Values, WORDS, Word};
 use crate::shells::Shell;
+use crate::texts::{push_all, push_joined};
 use std::alloc::{AllocError, Global};
 use std::fmt;
 
@@ -39,24 +39,24 @@ pub fn completion(alloc: Global, shell: Shell) -> Result<String, AllocError> {
 fn push_bash(shown: &mut String) -> Result<(), AllocError> {
     shown.push_str(BASH_BEFORE)?;
     for word in &WORDS {
-        let Asks::Value(_, values) = word.asks else {
-            continue;
-        };
-        shown.push_str("    ")?;
-        push_names(shown, word, "|")?;
-        push_bash_values(shown, values)?;
+        if let Asks::Value(_, values) = word.asks {
+            push_bash_case(shown, word.names, values)?;
+        }
     }
     shown.push_str(BASH_BETWEEN)?;
     let mut blank = "";
     for word in &WORDS {
         shown.push_str(blank)?;
-        push_names(shown, word, " ")?;
+        push_joined(shown, word.names, " ")?;
         blank = " ";
     }
     shown.push_str(BASH_BEHIND)
 }
 
-fn push_bash_values(shown: &mut String, values: Values) -> Result<(), AllocError> {
+/// Adds the values behind an option of these names.
+fn push_bash_case(shown: &mut String, names: &[&str], values: Values) -> Result<(), AllocError> {
+    shown.push_str("    ")?;
+    push_joined(shown, names, "|")?;
     match values {
         Values::File => {
             shown.push_str(") mapfile -t COMPREPLY < <(compgen -f -- \"$current\"); return ;;\n")
@@ -64,7 +64,7 @@ fn push_bash_values(shown: &mut String, values: Values) -> Result<(), AllocError
         Values::Number => shown.push_str(") COMPREPLY=(); return ;;\n"),
         Values::OneOf(texts) => {
             shown.push_str(") mapfile -t COMPREPLY < <(compgen -W '")?;
-            push_texts(shown, texts, " ")?;
+            push_joined(shown, texts, " ")?;
             shown.push_str("' -- \"$current\"); return ;;\n")
         }
     }
@@ -73,58 +73,64 @@ fn push_bash_values(shown: &mut String, values: Values) -> Result<(), AllocError
 fn push_zsh(shown: &mut String) -> Result<(), AllocError> {
     shown.push_str("#compdef cedar-validate\n_arguments \\\n")?;
     for word in &WORDS {
-        match word.names {
-            [name] => write!(shown, "  '*{name}")?,
-            _ => {
-                shown.push_str("  '*'{")?;
-                push_names(shown, word, ",")?;
-                shown.push_str("}'")?;
-            }
-        }
-        let about = ZshText(word.about);
-        write!(shown, "[{about}]")?;
-        if let Asks::Value(_, values) = word.asks {
-            push_zsh_values(shown, values)?;
-        }
-        shown.push_str("' \\\n")?;
+        push_zsh_names(shown, word.names)?;
+        push_zsh_word(shown, word)?;
     }
     shown.push_str("  '*:file:_files'\n")
 }
 
-fn push_zsh_values(shown: &mut String, values: Values) -> Result<(), AllocError> {
-    match values {
-        Values::File => shown.push_str(":file:_files"),
-        Values::Number => shown.push_str(":number: "),
-        Values::OneOf(texts) => {
-            shown.push_str(":value:(")?;
-            push_texts(shown, texts, " ")?;
-            shown.push_str(")")
-        }
+fn push_zsh_names(shown: &mut String, names: &[&str]) -> Result<(), AllocError> {
+    if let [name] = names {
+        return push_all(shown, &["  '*", *name]);
     }
+    shown.push_str("  '*'{")?;
+    push_joined(shown, names, ",")?;
+    shown.push_str("}'")
+}
+
+/// Adds the description of a word and its values, behind its names.
+fn push_zsh_word(shown: &mut String, word: &Word) -> Result<(), AllocError> {
+    let about = ZshText(word.about);
+    write!(shown, "[{about}]")?;
+    match word.asks {
+        Asks::Flag(_) => {}
+        Asks::Value(_, Values::File) => shown.push_str(":file:_files")?,
+        Asks::Value(_, Values::Number) => shown.push_str(":number: ")?,
+        Asks::Value(_, Values::OneOf(texts)) => push_zsh_texts(shown, texts)?,
+    }
+    shown.push_str("' \\\n")
+}
+
+fn push_zsh_texts(shown: &mut String, texts: &[&str]) -> Result<(), AllocError> {
+    shown.push_str(":value:(")?;
+    push_joined(shown, texts, " ")?;
+    shown.push_str(")")
 }
 
 fn push_fish(shown: &mut String) -> Result<(), AllocError> {
     for word in &WORDS {
-        shown.push_str("complete -c cedar-validate")?;
-        push_fish_names(shown, word)?;
-        if let Asks::Value(_, values) = word.asks {
-            push_fish_values(shown, values)?;
-        }
-        writeln!(shown, " -d '{}'", word.about)?;
+        push_fish_word(shown, word)?;
     }
     Ok(())
 }
 
+fn push_fish_word(shown: &mut String, word: &Word) -> Result<(), AllocError> {
+    shown.push_str("complete -c cedar-validate")?;
+    push_fish_names(shown, word.names)?;
+    if let Asks::Value(_, values) = word.asks {
+        push_fish_values(shown, values)?;
+    }
+    push_all(shown, &[" -d '", word.about, "'\n"])
+}
+
 /// Adds the names of a word: a long name begins with two hyphens.
-fn push_fish_names(shown: &mut String, word: &Word) -> Result<(), AllocError> {
-    for name in word.names {
-        match name.strip_prefix("--") {
-            Some(long) => write!(shown, " -l {long}")?,
-            None => {
-                let short = name.trim_start_matches('-');
-                write!(shown, " -s {short}")?;
-            }
-        }
+fn push_fish_names(shown: &mut String, names: &[&str]) -> Result<(), AllocError> {
+    for name in names {
+        let parts = match name.strip_prefix("--") {
+            Some(long) => [" -l ", long],
+            None => [" -s ", name.trim_start_matches('-')],
+        };
+        push_all(shown, &parts)?;
     }
     Ok(())
 }
@@ -135,7 +141,7 @@ fn push_fish_values(shown: &mut String, values: Values) -> Result<(), AllocError
         Values::Number => shown.push_str(" -x"),
         Values::OneOf(texts) => {
             shown.push_str(" -x -a '")?;
-            push_texts(shown, texts, " ")?;
+            push_joined(shown, texts, " ")?;
             shown.push_str("'")
         }
     }

@@ -98,15 +98,24 @@ impl fmt::Display for ShownId<'_> {
         }
         let mut before = ' ';
         for c in self.0.chars() {
-            match c {
-                '\'' => f.write_char(c)?,
-                '`' => f.write_str("\\u{60}")?,
-                '#' if begins_command(before, c) => f.write_str(ESCAPED_MARK)?,
-                _ => write_escaped(f, c)?,
-            }
+            write_shown_in_id(f, before, c)?;
             before = c;
         }
         Ok(())
+    }
+}
+
+/// Writes a character of an id as [`ShownId`] does, which stands behind another in the id.
+fn write_shown_in_id<W: fmt::Write>(
+    f: &mut fmt::Formatter<W>,
+    before: char,
+    c: char,
+) -> fmt::Result {
+    match c {
+        '\'' => f.write_char(c),
+        '`' => f.write_str("\\u{60}"),
+        '#' if begins_command(before, c) => f.write_str(ESCAPED_MARK),
+        _ => write_escaped(f, c),
     }
 }
 

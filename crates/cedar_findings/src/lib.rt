@@ -41,5 +41,6 @@ pub mod similar;
 pub mod sources;
 pub mod statuses;
 pub mod syntaxes;
+mod texts;
 pub mod totals;
 pub mod writers;

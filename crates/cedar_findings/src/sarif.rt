@@ -97,28 +97,21 @@ fn add_beginning(
     json.begin_object(out)?;
     json.text_at(out, "$schema", SCHEMA)?;
     json.text_at(out, "version", "2.1.0")?;
-    json.key(out, "runs")?;
-    json.begin_list(out)?;
+    json.list_at(out, "runs")?;
     json.begin_object(out)?;
-    json.key(out, "tool")?;
-    json.begin_object(out)?;
-    json.key(out, "driver")?;
-    json.begin_object(out)?;
+    json.object_at(out, "tool")?;
+    json.object_at(out, "driver")?;
     json.text_at(out, "name", "cedar-validate")?;
     json.text_at(out, "version", "0.1.0")?;
-    json.key(out, "rules")?;
-    json.begin_list(out)?;
-    for code in CODES {
+    json.list_at(out, "rules")?;
+    for code in &CODES {
         json.begin_line(out)?;
-        add_rule(json, out, code)?;
+        add_rule(json, out, *code)?;
     }
-    json.end_list(out)?;
-    json.end_object(out)?;
-    json.end_object(out)?;
+    json.end_nested(out, "]}}")?;
     json.begin_line(out)?;
     json.text_at(out, "columnKind", column_kind)?;
-    json.key(out, "results")?;
-    json.begin_list(out)
+    json.list_at(out, "results")
 }
 
 /// Adds a kind of finding. Its `helpUri` leads to Cedar's documentation, because SARIF wants an absolute address there.
@@ -139,8 +132,7 @@ fn add_message(
     name: &str,
     text: &str,
 ) -> Result<(), AllocError> {
-    json.key(out, name)?;
-    json.begin_object(out)?;
+    json.object_at(out, name)?;
     json.text_at(out, "text", text)?;
     json.end_object(out)
 }
@@ -156,8 +148,7 @@ fn begin_result(
     json.begin_object(out)?;
     json.text_at(out, "ruleId", code.text())?;
     json.text_at(out, "level", severity.text())?;
-    json.key(out, "message")?;
-    json.begin_object(out)?;
+    json.object_at(out, "message")?;
     json.key(out, "text")?;
     json.begin_text(out)
 }
@@ -213,27 +204,21 @@ fn add_part(
 
 /// Ends the message, and begins its place with a file.
 fn add_file(json: &mut JsonWriter, out: &mut String, file: &str) -> Result<(), AllocError> {
-    json.end_text(out)?;
-    json.end_object(out)?;
-    json.key(out, "locations")?;
-    json.begin_list(out)?;
+    json.end_nested(out, "\"}")?;
+    json.list_at(out, "locations")?;
     json.begin_object(out)?;
-    json.key(out, "physicalLocation")?;
-    json.begin_object(out)?;
-    json.key(out, "artifactLocation")?;
-    json.begin_object(out)?;
+    json.object_at(out, "physicalLocation")?;
+    json.object_at(out, "artifactLocation")?;
     json.key(out, "uri")?;
     json.begin_text(out)?;
     add_reference(json, out, file)?;
-    json.end_text(out)?;
-    json.end_object(out)
+    json.end_nested(out, "\"}")
 }
 
 /// Ends the message, and begins its place with a file and a region of it.
 fn add_place(json: &mut JsonWriter, out: &mut String, place: Place<'_>) -> Result<(), AllocError> {
     add_file(json, out, place.source.name)?;
-    json.key(out, "region")?;
-    json.begin_object(out)?;
+    json.object_at(out, "region")?;
     let Position { line, column } = place.at;
     json.number_at(out, "startLine", line as u64)?;
     json.number_at(out, "startColumn", column as u64)?;
@@ -245,10 +230,7 @@ fn add_place(json: &mut JsonWriter, out: &mut String, place: Place<'_>) -> Resul
 
 /// Ends the place of a result, and the result.
 fn end_result(json: &mut JsonWriter, out: &mut String) -> Result<(), AllocError> {
-    json.end_object(out)?;
-    json.end_object(out)?;
-    json.end_list(out)?;
-    json.end_object(out)
+    json.end_nested(out, "}}]}")
 }
 
 /// Adds the name of a file as a reference: a byte that is no letter, no digit and none of `-._~/` is written as `%` with its
@@ -281,18 +263,13 @@ fn digit(number: u8) -> char {
 fn add_end(json: &mut JsonWriter, out: &mut String, totals: &Totals) -> Result<(), AllocError> {
     json.end_list(out)?;
     json.begin_line(out)?;
-    json.key(out, "invocations")?;
-    json.begin_list(out)?;
+    json.list_at(out, "invocations")?;
     json.begin_object(out)?;
-    json.key(out, "executionSuccessful")?;
-    json.boolean(out, totals.faults == 0)?;
-    json.end_object(out)?;
-    json.end_list(out)?;
+    json.boolean_at(out, "executionSuccessful", totals.faults == 0)?;
+    json.end_nested(out, "}]")?;
     json.key(out, "properties")?;
     objects::add_totals(json, out, totals)?;
     json.end_line(out)?;
-    json.end_object(out)?;
-    json.end_list(out)?;
-    json.end_object(out)?;
+    json.end_nested(out, "}]}")?;
     json.end_line(out)
 }
