@@ -25,6 +25,23 @@ const BASH_BEHIND: &str = "' -- \"$current\")
 complete -o filenames -F _cedar_validate cedar-validate
 ";
 
+/// The beginning of the script for zsh, up to the words. It is a function that zsh finds as a file of the name
+/// `_cedar-validate`, or that a shell reads by `source`.
+const ZSH_BEFORE: &str = "#compdef cedar-validate
+_cedar-validate() {
+_arguments -s -S : \\
+";
+
+/// The end of the script for zsh. As a file, it is called where the function's name is on the stack.
+const ZSH_BEHIND: &str = "  '*:file:_files'
+}
+if [[ ${funcstack[1]} == _cedar-validate ]]; then
+    _cedar-validate \"$@\"
+else
+    compdef _cedar-validate cedar-validate
+fi
+";
+
 /// The script that completes the words of the program in this shell.
 pub fn completion(alloc: Global, shell: Shell) -> Result<String, AllocError> {
     let mut shown = String::new(alloc);
@@ -71,21 +88,33 @@ fn push_bash_case(shown: &mut String, names: &[&str], values: Values) -> Result<
 }
 
 fn push_zsh(shown: &mut String) -> Result<(), AllocError> {
-    shown.push_str("#compdef cedar-validate\n_arguments \\\n")?;
+    shown.push_str(ZSH_BEFORE)?;
     for word in &WORDS {
-        push_zsh_names(shown, word.names)?;
+        push_zsh_names(shown, word)?;
         push_zsh_word(shown, word)?;
     }
-    shown.push_str("  '*:file:_files'\n")
+    shown.push_str(ZSH_BEHIND)
 }
 
-fn push_zsh_names(shown: &mut String, names: &[&str]) -> Result<(), AllocError> {
-    if let [name] = names {
-        return push_all(shown, &["  '*", *name]);
+/// Adds the names of a word, each with a mark if a value follows: `=` or `+` says that it may stand in the same word.
+fn push_zsh_names(shown: &mut String, word: &Word) -> Result<(), AllocError> {
+    if let [name] = word.names {
+        return push_all(shown, &["  '*", *name, zsh_mark(name, word.asks)]);
     }
-    shown.push_str("  '*'{")?;
-    push_joined(shown, names, ",")?;
+    let mut before = "  '*'{";
+    for name in word.names {
+        push_all(shown, &[before, *name, zsh_mark(name, word.asks)])?;
+        before = ",";
+    }
     shown.push_str("}'")
+}
+
+fn zsh_mark(name: &str, asks: Asks) -> &'static str {
+    match asks {
+        Asks::Flag(_) => "",
+        Asks::Value(_, _) if name.starts_with("--") => "=",
+        Asks::Value(_, _) => "+",
+    }
 }
 
 /// Adds the description of a word and its values, behind its names.

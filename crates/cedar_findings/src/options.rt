@@ -204,6 +204,26 @@ pub fn option_by_name(name: &str) -> Option<Asks> {
     None
 }
 
+/// The option whose short name has this letter, if there is one.
+pub fn option_by_letter(letter: char) -> Option<Asks> {
+    for word in &WORDS {
+        for name in word.names {
+            if is_short(name, letter) {
+                return Some(word.asks);
+            }
+        }
+    }
+    None
+}
+
+/// Whether a name is a hyphen and this letter.
+fn is_short(name: &str, letter: char) -> bool {
+    match name.strip_prefix('-') {
+        Some(rest) => rest.len() == 1 && rest.starts_with(letter),
+        None => false,
+    }
+}
+
 impl ValueOption {
     /// The misuse of an option whose value is missing, or is none that the option takes.
     pub fn misuse(self) -> Misuse {
