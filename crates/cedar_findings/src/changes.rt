@@ -3,6 +3,7 @@ use crate::escapes::{Shown, ShownId};
 use crate::findings::{Finding, Requirement, Severity, Verdict};
 use crate::formats::Format;
 use crate::json::JsonWriter;
+use crate::lengths::cut;
 use crate::objects::add_place;
 use crate::texts::push_all;
 use crate::writers::Place;
@@ -145,8 +146,9 @@ fn push_line(
     comparison: &Comparison<'_, '_>,
 ) -> Result<(), AllocError> {
     let place = policy.place;
-    let id = ShownId(policy.id);
-    write!(out, "{place}: policy `{id}`: ")?;
+    let (id, mark) = cut(policy.id);
+    let id = ShownId(id);
+    write!(out, "{place}: policy `{id}{mark}`: ")?;
     let mut before = if comparison.is_worse { "worse: " } else { "" };
     for change in &comparison.changes {
         let (text, _) = change.texts();

@@ -162,9 +162,11 @@ impl JsonWriter {
 
     /// Adds the beginning of the next value, behind a comma if one is due.
     fn begin(&mut self, out: &mut String, beginning: &str) -> Result<(), AllocError> {
-        let comma = if self.is_behind_value { "," } else { "" };
+        if !self.is_behind_value {
+            return out.push_str(beginning);
+        }
         self.is_behind_value = false;
-        push_all(out, &[comma, beginning])
+        push_all(out, &[",", beginning])
     }
 
     /// Adds the end of a value.

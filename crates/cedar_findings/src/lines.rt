@@ -1,8 +1,9 @@
 //! Findings as lines for people.
 use crate::digits::push_number;
-use crate::escapes::{push_shown, push_shown_id};
+use crate::escapes::{push_file, push_shown, push_shown_id};
 use crate::excerpts::Excerpt;
 use crate::findings::{Finding, Requirement, Severity, Verdict};
+use crate::lengths::cut;
 use crate::texts::push_all;
 use crate::totals::Totals;
 use crate::writers::{Entry, FindingsWriter, Place};
@@ -45,7 +46,7 @@ impl FindingsWriter for Lines {
 
 /// Adds a place, and a colon behind it.
 fn push_place(out: &mut String, place: Place<'_>) -> Result<(), AllocError> {
-    push_shown(out, place.source.name)?;
+    push_file(out, place.source.name)?;
     let Position { line, column } = place.at;
     let (mut line_digits, mut column_digits) = (Buffer::new(), Buffer::new());
     let line = line_digits.format(line as u64);
@@ -62,12 +63,14 @@ fn push_policy(
 ) -> Result<(), AllocError> {
     push_place(out, place)?;
     out.push_str("policy `")?;
+    let (id, mark) = cut(id);
     push_shown_id(out, id)?;
-    out.push_str(if verdict.is_accepted {
+    let outcome = if verdict.is_accepted {
         "`: accepted"
     } else {
         "`: refused"
-    })?;
+    };
+    push_all(out, &[mark, outcome])?;
     push_requirement(out, verdict.requirement)
 }
 
@@ -130,7 +133,7 @@ fn push_message(
 
 /// Adds the line of a file that cannot be read.
 fn push_missing(out: &mut String, file: &str, why: &str) -> Result<(), AllocError> {
-    push_shown(out, file)?;
+    push_file(out, file)?;
     out.push_str(": fault: ")?;
     push_shown(out, why)?;
     out.push_str("\n")

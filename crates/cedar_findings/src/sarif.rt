@@ -4,11 +4,13 @@ use crate::columns::Columns;
 use crate::data_findings::DataFinding;
 use crate::findings::{Finding, Severity};
 use crate::json::JsonWriter;
+use crate::lengths::cut;
 use crate::objects;
 use crate::rules::{description, help, page};
 use crate::totals::Totals;
 use crate::writers::{Entry, FindingsWriter, Place};
 use cedar_reading::Position;
+use memchr::memchr2;
 use std::alloc::AllocError;
 
 /// The address of SARIF's schema.
@@ -48,12 +50,12 @@ impl FindingsWriter for Sarif {
             }
             Entry::Fault(place, text) => {
                 begin_result(json, out, Code::Fault, Severity::Error)?;
-                json.text_part(out, text)?;
+                add_part(json, out, "", text)?;
                 add_place(json, out, place)?;
             }
             Entry::Missing(file, why) => {
                 begin_result(json, out, Code::File, Severity::Error)?;
-                json.text_part(out, why)?;
+                add_part(json, out, "", why)?;
                 add_file(json, out, file)?;
             }
         }
@@ -160,7 +162,7 @@ fn add_finding(
     id: &str,
     finding: &Finding,
 ) -> Result<(), AllocError> {
-    add_part(json, out, "policy `", id)?;
+    add_id(json, out, id)?;
     add_part(json, out, "`: ", finding.text.as_str())?;
     if !finding.hint.is_empty() {
         add_part(json, out, "; ", finding.hint.as_str())?;
@@ -176,7 +178,7 @@ fn add_finding(
 
 /// Adds the number of further findings in the policy of this id.
 fn add_rest(json: &JsonWriter, out: &mut String, id: &str, count: usize) -> Result<(), AllocError> {
-    add_part(json, out, "policy `", id)?;
+    add_id(json, out, id)?;
     json.text_part(out, "`: ")?;
     json.number_part(out, count as u64)?;
     json.text_part(out, " more findings")
@@ -184,14 +186,22 @@ fn add_rest(json: &JsonWriter, out: &mut String, id: &str, count: usize) -> Resu
 
 /// Adds a mistake in data, with its hint.
 fn add_data(json: &JsonWriter, out: &mut String, finding: &DataFinding) -> Result<(), AllocError> {
-    json.text_part(out, finding.text.as_str())?;
+    add_part(json, out, "", finding.text.as_str())?;
     if !finding.hint.is_empty() {
         add_part(json, out, "; ", finding.hint.as_str())?;
     }
     Ok(())
 }
 
-/// Adds a part of a message, behind the words that lead to it.
+/// Adds the policy that a message is about.
+fn add_id(json: &JsonWriter, out: &mut String, id: &str) -> Result<(), AllocError> {
+    let (id, mark) = cut(id);
+    add_part(json, out, "policy `", id)?;
+    json.text_part(out, mark)
+}
+
+/// Adds a part of a message, behind the words that lead to it. Viewers take `[a](b)` in a message for a link, and `{0}` for a
+/// placeholder, so the marks of a part that has one are escaped as SARIF says.
 fn add_part(
     json: &JsonWriter,
     out: &mut String,
@@ -199,7 +209,41 @@ fn add_part(
     text: &str,
 ) -> Result<(), AllocError> {
     json.text_part(out, words)?;
-    json.text_part(out, text)
+    if memchr2(b']', b'}', text.as_bytes()).is_none() {
+        return json.text_part(out, text);
+    }
+    add_escaped(json, out, text)
+}
+
+/// Adds a part of a message that has brackets or braces.
+fn add_escaped(json: &JsonWriter, out: &mut String, text: &str) -> Result<(), AllocError> {
+    let has_link = text.contains("](");
+    let has_placeholder = has_placeholder(text);
+    if !has_link && !has_placeholder {
+        return json.text_part(out, text);
+    }
+    for c in text.chars() {
+        let escape = match c {
+            '[' | ']' | '\\' if has_link => "\\",
+            '{' if has_placeholder => "{",
+            '}' if has_placeholder => "}",
+            _ => "",
+        };
+        json.text_part(out, escape)?;
+        json.char_part(out, c)?;
+    }
+    Ok(())
+}
+
+/// Whether a text has digits between braces.
+fn has_placeholder(text: &str) -> bool {
+    for part in text.split('{').skip(1) {
+        let behind = part.trim_start_matches(|c: char| c.is_ascii_digit());
+        if behind.len() < part.len() && behind.starts_with('}') {
+            return true;
+        }
+    }
+    false
 }
 
 /// Ends the message, and begins its place with a file.

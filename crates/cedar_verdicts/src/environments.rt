@@ -1,4 +1,5 @@
 // Environments of an error, as a finding shows them.
+use cedar_findings::lengths::cut_name;
 use cedar_typechecker::survey::{Environment, Environments, MAX_ENVIRONMENTS_LISTED};
 use cedar_types::base::EntityType;
 use std::alloc::{AllocError, Global};
@@ -54,21 +55,26 @@ fn environment_shown(alloc: Global, environment: &Environment) -> Result<String,
     let Some(request) = &environment.request else {
         return String::from_str(alloc, "an action that is not declared");
     };
-    let principal = &request.principal;
-    let resource = &request.resource;
-    let mut shown = format!(in alloc; "{} by {principal} on {resource}", request.action)?;
-    push_slot(&mut shown, "?principal", &environment.principal_slot)?;
-    push_slot(&mut shown, "?resource", &environment.resource_slot)?;
+    let action = cut_name(alloc, request.action.to_string(alloc)?)?;
+    let principal = cut_name(alloc, request.principal.to_string(alloc)?)?;
+    let resource = cut_name(alloc, request.resource.to_string(alloc)?)?;
+    let mut shown = format!(in alloc; "{action} by {principal} on {resource}")?;
+    push_slot(alloc, &mut shown, "?principal", &environment.principal_slot)?;
+    push_slot(alloc, &mut shown, "?resource", &environment.resource_slot)?;
     Ok(shown)
 }
 
 fn push_slot(
+    alloc: Global,
     shown: &mut String,
     name: &str,
     linked: &Option<EntityType>,
 ) -> Result<(), AllocError> {
     match linked {
         None => Ok(()),
-        Some(linked) => write!(shown, " with {name} of {linked}"),
+        Some(linked) => {
+            let linked = cut_name(alloc, linked.to_string(alloc)?)?;
+            write!(shown, " with {name} of {linked}")
+        }
     }
 }
