@@ -9,9 +9,12 @@ import json
 import os
 import pty
 import re
+import select
+import shutil
 import subprocess
 import sys
 import tempfile
+import time
 from pathlib import Path
 
 sys.path.insert(0, str(Path(__file__).resolve().parent.parent))
@@ -66,6 +69,11 @@ FILES = {
     "links_half": '[{"template_id": "share", "link_id": "a", "args": {"?principal": "alice"}}, '
                   '{"template_id": "share", "link_id": "odd", "args": {"?principal": "Photo::\\"one\\"", "?resource": "Photo::\\"one\\""}}, x]',
     "links_many": f"[{','.join('1' * 150)}]",
+    # what a code host would take for a command, a link or another name
+    "::error::x": '@id("r") permit(principal, action, resource) when { resource.size > 1 };\n',
+    "link": '@id("[fix](https://evil.example)") permit(principal, action, resource) when { resource["[a](b){0}"] };\n',
+    "unseen": '@id("u") permit(principal == User::"admin\u200b", action, resource);\n',
+    "long": "permit(principal, action, resource) when { resource." + "a" * 300 + " };\n",
     "links_odd": '[{"template_id": "share", "link_id": "a", "args": {"?principal": "alice"}}]',
 }
 
@@ -92,6 +100,11 @@ RUNS = (
     ("-s s -p p", "", 0, [A, ONE]),
     ("--schema s --policies p", "", 0, [A, ONE]),
     ("-s=s --policies=p -q", "", 0, []),
+    ("-ss -pp", "", 0, [A, ONE]),
+    ("-qs s -pp", "", 0, []),
+    ("-qss -p=refused", "", 1, R),
+    ("s -qkl", "", 2, []),
+    ("s p -qx", "", 2, []),
     ("s -p p", "", 0, [A, ONE]),
     ("-p p s", "", 0, [A, ONE]),
     ("-s s --policies - --quiet", FILES["refused"], 1, [it.replace("refused:1", "-:1", 1) for it in R]),
@@ -129,6 +142,13 @@ RUNS = (
     ("s p q -q", "", 0, []),
     ("s p q -q --unique-ids", "", 1, ["q:1:1: policy `a`: refused, level 0", "q:1:1: error: a policy of p has the same id"]),
     ("s p twice -q --unique-ids", "", 1, ["twice:2:1: policy `x`: refused, level 0", "twice:2:1: error: the policy at 1:1 of this file has the same id"]),
+    ("s p p -q --unique-ids", "", 1, ["p:1:1: policy `a`: refused, level 0", "p:1:1: error: a policy of p has the same id"]),
+    # names of files, and names in messages
+    ("-q s -- ::error::x", "", 1, ["./" + it.replace("refused:1", "::error::x:1", 1) for it in R]),
+    ("-q s ::error::gone", "", 2, ["./::error::gone: fault: cannot be read: "]),
+    ("-q s unseen", "", 0, ["unseen:1:1: policy `u`: accepted", at("unseen", "User") + ": warning: an id with characters that show nothing"]),
+    ("-q s unseen --deny-warnings", "", 1, ["unseen:1:1: policy `u`: accepted", "unseen:1:"]),
+    ("-q s long", "", 1, ["long:1:1: policy `policy0`: refused", at("long", "resource.") + ": error: attribute `" + "a" * 200 + "\u2026` does not exist on `Photo`"]),
     # links
     ("s t -k links", "", 0, ["t:1:1: policy `share`: accepted, level 1", "t:1:1: policy `alice`: accepted, level 1", "t:1:1: policy `odd`: accepted",
      "t:1:1: warning: ", "t:1:1: warning: ", "t:2:1: policy `plain`: accepted, level 0", "policies: 4, accepted: 4, refused: 0, warnings: 2, faults: 0"]),
@@ -179,6 +199,19 @@ RUNS = (
 # What is completed of a word in bash, behind these words.
 COMPLETED = (("", "--sch", "--schema --schema-format"), ("--mode", "p", "permissive partial"), ("--validation-mode", "str", "strict"),
              ("--policy-format", "", "cedar json"), ("-s", "chan", "changes"), ("--level", "", ""), ("", "brok", "broken"))
+
+
+# A shell that completes without a list, and shows the line behind control and x.
+ZSH = """autoload -Uz compinit && compinit -u -D
+source <(PROGRAM --completion zsh)
+PS1= RPS1=
+setopt no_beep no_auto_list no_zle_bracketed_paste 2>/dev/null
+show_line() { print -r -- "BUFFER=$BUFFER=EN""D" }
+zle -N show_line
+bindkey '^X' show_line
+"""
+# What is completed of words in zsh.
+ZSH_OFFERED = (("--templ", "--template-linked="), ("--mode perm", "--mode permissive "), ("--mode=part", "--mode=partial "), ("-q --unique", "-q --unique-ids "))
 
 
 class Counts:
@@ -239,6 +272,23 @@ def exactly_differs(program, room, words, wanted):
     return None if text.splitlines() == wanted else text
 
 
+def message_differs(program, room):
+    """What SARIF says of names that look like a link or a placeholder, where they could be taken for one; else None."""
+    text = ended(program, room, ["--format", "sarif", "s", "link"])[1]
+    said = json.loads(text)["runs"][0]["results"][0]["message"]["text"]
+    wanted = r"policy `\[fix\](https://evil.example)`: attribute `\[a\](b){{0}}` does not exist on `Photo`"
+    return None if said == wanted else said
+
+
+def pipe_differs(program, room):
+    """What a run whose output nobody reads says, where it says something or hangs; else None."""
+    own, other = os.pipe()
+    os.close(own)
+    done = subprocess.run([str(program), "s", "p"], cwd=room, stdin=subprocess.DEVNULL, stdout=other, stderr=subprocess.PIPE, timeout=SECONDS)
+    os.close(other)
+    return None if done.returncode != 0 and not done.stderr else f"status {done.returncode}: {done.stderr.decode()}"
+
+
 def words_of_page():
     """The words of the table in docs/READING.md."""
     page = (TOP / "docs" / "READING.md").read_text(encoding="utf8")
@@ -274,6 +324,34 @@ def completions_differ(program, room):
         words = f"COMP_WORDS=(cedar-validate {before or 's'} '{current}'); COMP_CWORD=2; _cedar_validate; echo \"${{COMPREPLY[*]}}\""
         done = subprocess.run(["bash", "-c", f"{script}\n{words}"], cwd=room, capture_output=True, text=True, timeout=SECONDS)
         yield f"bash, {before} {current}", None if done.stdout.split() == wanted.split() else done.stdout + done.stderr
+    if shutil.which("zsh"):
+        yield "zsh, by source", zsh_differs(program, room)
+
+
+def zsh_differs(program, room):
+    """What zsh offers of a long word, of the values of an option and of joined short options, where it is not what is wanted."""
+    Path(room, "zshrc").write_text(ZSH.replace("PROGRAM", str(program)), encoding="utf8")
+    for typed, wanted in ZSH_OFFERED:
+        own, other = pty.openpty()
+        done = subprocess.Popen(["zsh", "-f", "-i"], cwd=room, stdin=other, stdout=other, stderr=other, env=os.environ | {"TERM": "dumb"})
+        os.close(other)
+        os.write(own, f"source ./zshrc\ncedar-validate {typed}\t\x18".encode())
+        text = read_until(own, "END")
+        done.kill()
+        done.wait(SECONDS)
+        os.close(own)
+        if f"BUFFER=cedar-validate {wanted}=END" not in text:
+            return f"{typed}: {text}"
+    return None
+
+
+def read_until(terminal, mark):
+    """What a terminal shows until a mark, behind the text that was typed, or its end."""
+    text, ends = "", time.monotonic() + SECONDS
+    while mark not in text and time.monotonic() < ends:
+        if select.select([terminal], [], [], 1)[0]:
+            text += os.read(terminal, 4096).decode(errors="replace")
+    return text
 
 
 def on_terminal(program, room, **more):
@@ -312,7 +390,8 @@ def main(words):
             counts.add(said, differs(program, room, said, given, status, wanted))
         for said, wanted in EXACT:
             counts.add(said, exactly_differs(program, room, said, wanted))
-        counts.add("SARIF", sarif_differs(program, room))
+        for what, differs_in in (("SARIF", sarif_differs), ("a message of SARIF", message_differs), ("a closed pipe", pipe_differs)):
+            counts.add(what, differs_in(program, room))
         for answers in (words_differ, completions_differ, colours_differ):
             for what, difference in answers(program, room):
                 counts.add(what, difference)

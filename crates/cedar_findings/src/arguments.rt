@@ -252,7 +252,11 @@ fn set_once(alloc: Global, file: &mut Option<String>, name: &str) -> Result<bool
 
 /// The number of times that these files name standard input.
 fn inputs_in(files: &[String]) -> usize {
-    files.iter().filter(|name| name.as_str() == "-").count()
+    let mut inputs = 0usize;
+    for name in files {
+        inputs = inputs.saturating_add(usize::from(name.as_str() == "-"));
+    }
+    inputs
 }
 
 /// Whether a file is standard input.

@@ -4,7 +4,9 @@ use crate::escapes::{Shown, ShownId};
 use crate::findings::{Finding, Requirement, Severity, Verdict};
 use crate::formats::Format;
 use crate::json::JsonWriter;
+use crate::lengths::cut;
 use crate::objects::{add_place, add_texts};
+use crate::texts::push_all;
 use crate::writers::Place;
 use std::alloc::AllocError;
 
@@ -158,13 +160,13 @@ fn push_line(
     comparison: &Comparison<'_, '_>,
 ) -> Result<(), AllocError> {
     let place = policy.place;
-    let id = ShownId(policy.id);
-    write!(out, "{place}: policy `{id}`: ")?;
+    let (id, mark) = cut(policy.id);
+    let id = ShownId(id);
+    write!(out, "{place}: policy `{id}{mark}`: ")?;
     let mut before = if comparison.is_worse { "worse: " } else { "" };
     for change in &comparison.changes {
         let (text, _) = change.texts();
-        out.push_str(before)?;
-        out.push_str(text)?;
+        push_all(out, &[before, text])?;
         if *change == Change::Level {
             push_levels(out, levels)?;
         }
@@ -231,32 +233,21 @@ fn push_object(
     json.begin_object(out)?;
     add_place(&mut json, out, "change", policy.place)?;
     json.text_at(out, "id", policy.id)?;
-    add_boolean(&mut json, out, "worse", comparison.is_worse)?;
-    json.key(out, "changes")?;
-    json.begin_list(out)?;
+    json.boolean_at(out, "worse", comparison.is_worse)?;
+    json.list_at(out, "changes")?;
     for change in &comparison.changes {
         let (_, text) = change.texts();
         json.text(out, text)?;
     }
     json.end_list(out)?;
-    add_boolean(&mut json, out, "accepted", new.is_accepted)?;
-    add_boolean(&mut json, out, "was_accepted", old.is_accepted)?;
+    json.boolean_at(out, "accepted", new.is_accepted)?;
+    json.boolean_at(out, "was_accepted", old.is_accepted)?;
     add_level(&mut json, out, "level", new.requirement)?;
     add_level(&mut json, out, "was_level", old.requirement)?;
     add_texts(&mut json, out, "gained", &comparison.environments.gained)?;
     add_texts(&mut json, out, "lost", &comparison.environments.lost)?;
     json.end_object(out)?;
     json.end_line(out)
-}
-
-fn add_boolean(
-    json: &mut JsonWriter,
-    out: &mut String,
-    name: &str,
-    value: bool,
-) -> Result<(), AllocError> {
-    json.key(out, name)?;
-    json.boolean(out, value)
 }
 
 /// Adds a level as the objects of policies have it: null if no number is enough, and nothing if no level is known.

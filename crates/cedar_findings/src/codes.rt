@@ -169,7 +169,7 @@ impl Code {
             Code::Impossible => "A policy is false for every request.",
             Code::NoAction => "No action fits the scope of a policy.",
             Code::Direction => "A text has marks that change the direction of what is shown.",
-            Code::LookAlike => "A text has letters that may be taken for others.",
+            Code::LookAlike => "A text has letters that may be taken for others, or for none.",
             Code::Environments => "A policy applies to other environments by a newer schema.",
             Code::DataType => "A value has another type than the schema declares.",
             Code::DataMissing => "An attribute that the schema requires is not there.",

@@ -1,5 +1,6 @@
 //! Colours of the kinds of findings, in lines for people.
-use crate::escapes::Shown;
+use crate::escapes::ShownFile;
+use crate::texts::push_all;
 use std::alloc::{AllocError, Global};
 use std::env::VarError;
 
@@ -44,7 +45,7 @@ fn colour_of(kind: &str) -> Option<&'static str> {
 /// Lines about the file of this name, the kind of each in its colour. A line that does not begin
 /// with a place of the file stays as it is, for example a line of the file's text.
 pub fn painted(alloc: Global, name: &str, lines: &str) -> Result<String, AllocError> {
-    let name = Shown(name);
+    let name = ShownFile(name);
     let file = format!(in alloc; "{name}:")?;
     let mut shown = String::new(alloc);
     for line in lines.split_inclusive('\n') {
@@ -63,8 +64,7 @@ fn push_line(shown: &mut String, file: &str, line: &str) -> Result<(), AllocErro
     let before = line.get(..kind.start).unwrap_or("");
     let behind = line.get(kind.start..).unwrap_or("");
     let behind = behind.strip_prefix(kind.text).unwrap_or("");
-    let text = kind.text;
-    write!(shown, "{before}{colour}{text}{END}{behind}")
+    push_all(shown, &[before, colour, kind.text, END, behind])
 }
 
 /// A kind, and the byte of its line at which it stands.

@@ -2,7 +2,7 @@
 use crate::arguments::{Arguments, Asked, IdScope, Misuse, Task};
 use crate::formats::Format;
 use crate::objects::Objects;
-use crate::options::{Asks, Flag, ValueOption, option_by_name};
+use crate::options::{Asks, Flag, ValueOption, option_by_letter, option_by_name};
 use crate::shells::Shell;
 use crate::statuses::Statuses;
 use std::alloc::{AllocError, Global};
@@ -23,6 +23,37 @@ pub fn read_arguments(
         }
     }
     read.finish()
+}
+
+/// The question about the program itself that an option is, if it is one.
+fn question(flag: Flag) -> Option<Asked> {
+    match flag {
+        Flag::Help => Some(Asked::Help),
+        Flag::Version => Some(Asked::Version),
+        Flag::Page => Some(Asked::Page),
+        _ => None,
+    }
+}
+
+/// The first question among joined short options, before one that takes a value.
+fn question_among(letters: &str) -> Option<Asked> {
+    for letter in letters.chars() {
+        let Some(Asks::Flag(flag)) = option_by_letter(letter) else {
+            return None;
+        };
+        if let Some(asked) = question(flag) {
+            return Some(asked);
+        }
+    }
+    None
+}
+
+/// The letters of a word such as `-qs`, which joins short options; an empty text, if the word is no such one.
+fn joined_letters(word: &str) -> &str {
+    match word.strip_prefix('-') {
+        Some(letters) if !letters.starts_with('-') => letters,
+        _ => "",
+    }
 }
 
 /// The kind of word that comes next.
@@ -62,9 +93,8 @@ impl Reading {
     fn asks_about_program(&self, word: &str) -> Option<Asked> {
         match (self.next, option_by_name(word)) {
             (Next::File, _) => None,
-            (_, Some(Asks::Flag(Flag::Help))) => Some(Asked::Help),
-            (_, Some(Asks::Flag(Flag::Version))) => Some(Asked::Version),
-            (_, Some(Asks::Flag(Flag::Page))) => Some(Asked::Page),
+            (_, Some(Asks::Flag(flag))) => question(flag),
+            (Next::Any, None) => question_among(joined_letters(word)),
             _ => None,
         }
     }
@@ -111,10 +141,41 @@ impl Reading {
             self.next = Next::File;
             return Ok(None);
         }
-        if text.len() > 1 && text.starts_with("-") {
+        if text.starts_with("--") {
             return Ok(Some(Misuse::UnknownOption(word.clone()?)));
         }
-        self.take_file(word)
+        match joined_letters(text) {
+            "" => self.take_file(word),
+            letters => self.take_joined(word, letters),
+        }
+    }
+
+    /// Reads short options that one word joins: the first that takes a value has the rest of the word as its value, or the
+    /// next word.
+    fn take_joined(&mut self, word: &String, letters: &str) -> Result<Option<Misuse>, AllocError> {
+        for (at, letter) in letters.char_indices() {
+            match option_by_letter(letter) {
+                None => return Ok(Some(Misuse::UnknownOption(word.clone()?))),
+                Some(Asks::Flag(flag)) => self.raise(flag),
+                Some(Asks::Value(option, _)) => {
+                    let behind = at.saturating_add(letter.len_utf8());
+                    return self.take_joined_value(option, letters.get(behind..).unwrap_or(""));
+                }
+            }
+        }
+        Ok(None)
+    }
+
+    fn take_joined_value(
+        &mut self,
+        option: ValueOption,
+        rest: &str,
+    ) -> Result<Option<Misuse>, AllocError> {
+        if rest.is_empty() {
+            self.next = Next::Value(option);
+            return Ok(None);
+        }
+        self.take_value(option, rest.strip_prefix('=').unwrap_or(rest))
     }
 
     /// Sets an option without a value.

@@ -51,6 +51,34 @@ pub(crate) fn push_shown(out: &mut String, text: &str) -> Result<(), AllocError>
     write!(out, "{shown}")
 }
 
+/// The name of a file, as [`Shown`] shows it, at the beginning of a line. A name that begins with `::` has `./` before it,
+/// because code hosts take a line that begins with `::` for a command, even behind blanks.
+#[derive(Drop)]
+pub(crate) struct ShownFile<'a>(pub(crate) &'a str);
+
+impl fmt::Display for ShownFile<'_> {
+    fn fmt<W: fmt::Write>(&self, f: &mut fmt::Formatter<W>) -> fmt::Result {
+        let before = front_of_file(self.0);
+        let name = Shown(self.0);
+        write!(f, "{before}{name}")
+    }
+}
+
+/// Adds the name of a file, as [`ShownFile`] shows it.
+pub(crate) fn push_file(out: &mut String, name: &str) -> Result<(), AllocError> {
+    out.push_str(front_of_file(name))?;
+    push_shown(out, name)
+}
+
+/// The part before the name of a file.
+fn front_of_file(name: &str) -> &'static str {
+    if name.trim_start().starts_with("::") {
+        "./"
+    } else {
+        ""
+    }
+}
+
 /// Adds an id, as [`ShownId`] shows it.
 pub(crate) fn push_shown_id(out: &mut String, id: &str) -> Result<(), AllocError> {
     if id.bytes().all(is_plain_in_id) {
@@ -98,15 +126,24 @@ impl fmt::Display for ShownId<'_> {
         }
         let mut before = ' ';
         for c in self.0.chars() {
-            match c {
-                '\'' => f.write_char(c)?,
-                '`' => f.write_str("\\u{60}")?,
-                '#' if begins_command(before, c) => f.write_str(ESCAPED_MARK)?,
-                _ => write_escaped(f, c)?,
-            }
+            write_shown_in_id(f, before, c)?;
             before = c;
         }
         Ok(())
+    }
+}
+
+/// Writes a character of an id as [`ShownId`] does, which stands behind another in the id.
+fn write_shown_in_id<W: fmt::Write>(
+    f: &mut fmt::Formatter<W>,
+    before: char,
+    c: char,
+) -> fmt::Result {
+    match c {
+        '\'' => f.write_char(c),
+        '`' => f.write_str("\\u{60}"),
+        '#' if begins_command(before, c) => f.write_str(ESCAPED_MARK),
+        _ => write_escaped(f, c),
     }
 }
 

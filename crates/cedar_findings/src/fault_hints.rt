@@ -1,5 +1,6 @@
 // Hints against faults of texts.
 use crate::faults::{Trouble, Written, push_hint};
+use crate::texts::{found_in, is_among};
 use cedar_reading::{Expected, Fault};
 use std::alloc::AllocError;
 
@@ -8,6 +9,72 @@ const JSON: &str = "JSON is read where a file begins with it, or by `--input jso
 
 /// The hint at a key with characters that a word cannot have.
 const KEY: &str = "a key that is no word stands in quotes, as `\"a-b\"`";
+
+/// Words and marks of other languages in policies, each with the hint at it.
+const SLIPS: [(&[&str], &str); 8] = [
+    (&["="], "`==` compares"),
+    (
+        &["&", "and", "AND"],
+        "`&&` stands between conditions that both have to hold",
+    ),
+    (
+        &["|", "or", "OR"],
+        "`||` stands between conditions of which one has to hold",
+    ),
+    (&["not", "NOT"], "`!` negates"),
+    (&["True", "TRUE"], "`true` is written small"),
+    (&["False", "FALSE"], "`false` is written small"),
+    (
+        &["null", "nil", "None"],
+        "nothing is null: `has` asks whether an attribute is there",
+    ),
+    (&[":"], "`::` stands between the parts of a name"),
+];
+
+/// Names for types in other languages, each with the hint at it.
+const OTHER_TYPES: [(&[&str], &str); 9] = [
+    (
+        &["string", "str", "Str", "text", "Text"],
+        "texts are of the type `String`",
+    ),
+    (
+        &[
+            "int", "Int", "integer", "Integer", "long", "number", "Number",
+        ],
+        "whole numbers are of the type `Long`",
+    ),
+    (&["bool", "boolean"], "truth values are of the type `Bool`"),
+    (
+        &["float", "Float", "double", "Double", "Decimal"],
+        "numbers with a fraction are of the type `decimal`",
+    ),
+    (
+        &[
+            "date",
+            "Date",
+            "time",
+            "Time",
+            "timestamp",
+            "Timestamp",
+            "DateTime",
+            "Datetime",
+        ],
+        "points in time are of the type `datetime`",
+    ),
+    (&["Duration"], "spans of time are of the type `duration`"),
+    (
+        &["ip", "Ip", "IP", "ipAddress", "IpAddress", "IPAddress"],
+        "addresses are of the type `ipaddr`",
+    ),
+    (
+        &["list", "List", "array", "Array", "set"],
+        "a type of sets is `Set<..>`",
+    ),
+    (
+        &["record", "object", "Object", "map", "Map"],
+        "a type of records is `{ a: Long }`",
+    ),
+];
 
 /// The number of digits that a decimal number may have behind its point.
 const MOST_PLACES: usize = 4;
@@ -46,15 +113,11 @@ fn hint_for_words(trouble: Trouble) -> &'static str {
 
 /// The hint in a policy.
 fn hint_in_policy(trouble: Trouble, read: &str) -> &'static str {
+    let slip = found_in(&SLIPS, read);
+    if !slip.is_empty() {
+        return slip;
+    }
     match read {
-        "=" => "`==` compares",
-        "&" | "and" | "AND" => "`&&` stands between conditions that both have to hold",
-        "|" | "or" | "OR" => "`||` stands between conditions of which one has to hold",
-        "not" | "NOT" => "`!` negates",
-        "True" | "TRUE" => "`true` is written small",
-        "False" | "FALSE" => "`false` is written small",
-        "null" | "nil" | "None" => "nothing is null: `has` asks whether an attribute is there",
-        ":" => "`::` stands between the parts of a name",
         "if" if is_for_expression(trouble) => {
             "an `if` that is a part of something else stands in parentheses"
         }
@@ -108,7 +171,7 @@ fn hint_in_schema(trouble: Trouble, read: &str) -> &'static str {
 
 /// Whether a mark seems to belong to a key without quotes.
 fn is_in_key(read: &str) -> bool {
-    read.starts_with('-') || matches!(read, "." | "/" | "+" | "*" | "$" | "#" | "@" | "%")
+    read.starts_with('-') || is_among(&[".", "/", "+", "*", "$", "#", "@", "%"], read)
 }
 
 /// Adds the way to write a number with a fraction, if its places are read at this byte as the name
@@ -143,26 +206,7 @@ fn whole_before_point(text: &str, start: usize) -> Option<&str> {
 
 /// The hint with Cedar's name for a type that has this name in other languages.
 pub(crate) fn meant_type(name: &str) -> &'static str {
-    match name {
-        "string" | "str" | "Str" | "text" | "Text" => "texts are of the type `String`",
-        "int" | "Int" | "integer" | "Integer" | "long" | "number" | "Number" => {
-            "whole numbers are of the type `Long`"
-        }
-        "bool" | "boolean" => "truth values are of the type `Bool`",
-        "float" | "Float" | "double" | "Double" | "Decimal" => {
-            "numbers with a fraction are of the type `decimal`"
-        }
-        "date" | "Date" | "time" | "Time" | "timestamp" | "Timestamp" | "DateTime" | "Datetime" => {
-            "points in time are of the type `datetime`"
-        }
-        "Duration" => "spans of time are of the type `duration`",
-        "ip" | "Ip" | "IP" | "ipAddress" | "IpAddress" | "IPAddress" => {
-            "addresses are of the type `ipaddr`"
-        }
-        "list" | "List" | "array" | "Array" | "set" => "a type of sets is `Set<..>`",
-        "record" | "object" | "Object" | "map" | "Map" => "a type of records is `{ a: Long }`",
-        _ => "",
-    }
+    found_in(&OTHER_TYPES, name)
 }
 
 /// Whether a name is read in place of an expression.
@@ -170,7 +214,7 @@ fn is_name(trouble: Trouble, read: &str) -> bool {
     let is_word = read.starts_with(|c: char| c.is_alphabetic());
     is_word
         && is_for_expression(trouble)
-        && !matches!(read, "then" | "else" | "in" | "is" | "has" | "like")
+        && !is_among(&["then", "else", "in", "is", "has", "like"], read)
 }
 
 fn is_for_expression(trouble: Trouble) -> bool {

@@ -1,5 +1,6 @@
 //! Usage and help of `cedar-validate`. Both are made of the table of words.
 use crate::options::{Asks, Values, WORDS, Word};
+use crate::texts::{push_all, push_joined};
 use std::alloc::{AllocError, Global};
 
 /// The width of the lines of the usage.
@@ -52,93 +53,90 @@ pub const STATUSES: [(&str, &str, &str); 4] = [
 /// The usage of the program: each word of the table.
 pub fn usage(alloc: Global) -> Result<String, AllocError> {
     let mut shown = String::from_str(alloc, "usage: cedar-validate")?;
+    push_usage(alloc, &mut shown)?;
+    Ok(shown)
+}
+
+fn push_usage(alloc: Global, shown: &mut String) -> Result<(), AllocError> {
     let mut column = shown.len();
     for word in &WORDS {
-        let mut part = String::from_str(alloc, "[")?;
-        push_names(&mut part, word, "|")?;
-        push_values(&mut part, word)?;
-        part.push_str("]")?;
-        push_wrapped(&mut shown, &mut column, part.as_str())?;
+        push_bracketed(alloc, shown, &mut column, word)?;
     }
-    push_wrapped(&mut shown, &mut column, FILES)?;
-    shown.push_str("\n")?;
-    Ok(shown)
+    push_wrapped(shown, &mut column, FILES)?;
+    shown.push_str("\n")
+}
+
+/// Adds a word of the table in brackets.
+fn push_bracketed(
+    alloc: Global,
+    shown: &mut String,
+    column: &mut usize,
+    word: &Word,
+) -> Result<(), AllocError> {
+    let mut part = String::from_str(alloc, "[")?;
+    push_word(&mut part, word, "|")?;
+    part.push_str("]")?;
+    push_wrapped(shown, column, part.as_str())
 }
 
 /// The help of the program: its purpose, each option, and each exit status.
 pub fn help(alloc: Global) -> Result<String, AllocError> {
     let mut shown = usage(alloc)?;
-    shown.push_str(PURPOSE)?;
-    shown.push_str("\n")?;
+    push_help(&mut shown)?;
+    Ok(shown)
+}
+
+fn push_help(shown: &mut String) -> Result<(), AllocError> {
+    push_all(shown, &[PURPOSE, "\n"])?;
     for word in &WORDS {
-        shown.push_str("  ")?;
-        push_names(&mut shown, word, ", ")?;
-        push_values(&mut shown, word)?;
-        writeln!(shown, "\n        {}", word.about)?;
+        push_about(shown, word)?;
     }
     shown.push_str(OTHERS)?;
-    for example in EXAMPLES {
-        write!(shown, "\n  {example}\n")?;
+    for example in &EXAMPLES {
+        push_all(shown, &["\n  ", *example, "\n"])?;
     }
     shown.push_str("\nThe exit status, and in brackets the one with --cedar-status:\n")?;
-    for (own, cedar, when) in STATUSES {
-        writeln!(shown, "  {own} ({cedar})  {when}")?;
+    for (own, cedar, when) in &STATUSES {
+        push_all(shown, &["  ", *own, " (", *cedar, ")  ", *when, "\n"])?;
     }
-    Ok(shown)
+    Ok(())
+}
+
+fn push_about(shown: &mut String, word: &Word) -> Result<(), AllocError> {
+    shown.push_str("  ")?;
+    push_word(shown, word, ", ")?;
+    push_all(shown, &["\n        ", word.about, "\n"])
 }
 
 /// Adds a part behind a blank, or on a new line if this one has no room.
 fn push_wrapped(shown: &mut String, column: &mut usize, part: &str) -> Result<(), AllocError> {
     let end = column.saturating_add(part.len()).saturating_add(1);
-    if end > WIDTH {
-        shown.push_str("\n    ")?;
+    let before = if end > WIDTH {
         *column = part.len().saturating_add(4);
+        "\n    "
     } else {
-        shown.push_str(" ")?;
         *column = end;
-    }
-    shown.push_str(part)
-}
-
-/// Adds the names of a word.
-pub(crate) fn push_names(shown: &mut String, word: &Word, between: &str) -> Result<(), AllocError> {
-    let mut is_first = true;
-    for name in word.names {
-        if !is_first {
-            shown.push_str(between)?;
-        }
-        is_first = false;
-        shown.push_str(name)?;
-    }
-    Ok(())
-}
-
-/// Adds the values that a word takes behind a blank, if it takes some.
-pub(crate) fn push_values(shown: &mut String, word: &Word) -> Result<(), AllocError> {
-    let Asks::Value(_, values) = word.asks else {
-        return Ok(());
+        " "
     };
-    shown.push_str(" ")?;
-    match values {
-        Values::File => shown.push_str("FILE"),
-        Values::Number => shown.push_str("N"),
-        Values::OneOf(texts) => push_texts(shown, texts, "|"),
+    push_all(shown, &[before, part])
+}
+
+/// Adds the names of a word, and the values that it takes behind a blank, if it takes some.
+pub(crate) fn push_word(shown: &mut String, word: &Word, between: &str) -> Result<(), AllocError> {
+    push_joined(shown, word.names, between)?;
+    match word.asks {
+        Asks::Flag(_) => Ok(()),
+        Asks::Value(_, values) => push_values(shown, values),
     }
 }
 
-/// Adds these texts.
-pub(crate) fn push_texts(
-    shown: &mut String,
-    texts: &[&str],
-    between: &str,
-) -> Result<(), AllocError> {
-    let mut is_first = true;
-    for text in texts {
-        if !is_first {
-            shown.push_str(between)?;
+fn push_values(shown: &mut String, values: Values) -> Result<(), AllocError> {
+    match values {
+        Values::File => shown.push_str(" FILE"),
+        Values::Number => shown.push_str(" N"),
+        Values::OneOf(texts) => {
+            shown.push_str(" ")?;
+            push_joined(shown, texts, "|")
         }
-        is_first = false;
-        shown.push_str(text)?;
     }
-    Ok(())
 }

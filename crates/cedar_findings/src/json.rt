@@ -1,6 +1,7 @@
 //! Writing of JSON. Nothing else writes brackets, commas, colons, quotes and escapes.
 use crate::digits::push_number;
 use crate::escapes::is_hidden;
+use crate::texts::push_all;
 use std::alloc::AllocError;
 
 /// Writes values of JSON behind a text, one after another. It remembers only whether a comma is
@@ -26,6 +27,11 @@ impl JsonWriter {
     /// Ends the object that was begun last.
     pub fn end_object(&mut self, out: &mut String) -> Result<(), AllocError> {
         self.end(out, "}")
+    }
+
+    /// Ends values that were begun, from the last one on: `ends` has the bracket or brace of each.
+    pub fn end_nested(&mut self, out: &mut String, ends: &str) -> Result<(), AllocError> {
+        self.end(out, ends)
     }
 
     /// Begins a list.
@@ -120,6 +126,29 @@ impl JsonWriter {
         self.number(out, number)
     }
 
+    /// Adds the key of a member that is an object, and begins the object.
+    pub fn object_at(&mut self, out: &mut String, key: &str) -> Result<(), AllocError> {
+        self.key(out, key)?;
+        self.begin_object(out)
+    }
+
+    /// Adds the key of a member that is a list, and begins the list.
+    pub fn list_at(&mut self, out: &mut String, key: &str) -> Result<(), AllocError> {
+        self.key(out, key)?;
+        self.begin_list(out)
+    }
+
+    /// Adds a member that is `true` or `false`.
+    pub fn boolean_at(
+        &mut self,
+        out: &mut String,
+        key: &str,
+        value: bool,
+    ) -> Result<(), AllocError> {
+        self.key(out, key)?;
+        self.boolean(out, value)
+    }
+
     /// Begins a line between two values, because JSON allows blanks there. A comma that is due
     /// comes before the line's end.
     pub fn begin_line(&mut self, out: &mut String) -> Result<(), AllocError> {
@@ -133,11 +162,11 @@ impl JsonWriter {
 
     /// Adds the beginning of the next value, behind a comma if one is due.
     fn begin(&mut self, out: &mut String, beginning: &str) -> Result<(), AllocError> {
-        if self.is_behind_value {
-            out.push_str(",")?;
+        if !self.is_behind_value {
+            return out.push_str(beginning);
         }
         self.is_behind_value = false;
-        out.push_str(beginning)
+        push_all(out, &[",", beginning])
     }
 
     /// Adds the end of a value.

@@ -72,9 +72,9 @@ pub fn form_fault(
 fn push_nearest_key(message: &mut String, alloc: Global, wrong: &str) -> Result<(), AllocError> {
     let mut search = Search::new(alloc, wrong)?;
     let mut nearest = None;
-    for key in KEYS_OF_DATA {
+    for key in &KEYS_OF_DATA {
         if search.is_nearer(key, false)? {
-            nearest = Some(key);
+            nearest = Some(*key);
         }
     }
     match nearest {

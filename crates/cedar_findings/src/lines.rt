@@ -1,11 +1,14 @@
 //! Findings as lines for people.
 use crate::digits::push_number;
-use crate::escapes::{push_shown, push_shown_id};
+use crate::escapes::{push_file, push_shown, push_shown_id};
 use crate::excerpts::Excerpt;
 use crate::findings::{Finding, Requirement, Severity, Verdict};
+use crate::lengths::cut;
+use crate::texts::push_all;
 use crate::totals::Totals;
 use crate::writers::{Entry, FindingsWriter, Place};
 use cedar_reading::Position;
+use itoa::Buffer;
 use std::alloc::AllocError;
 
 /// Writes lines for people, with the text that is meant.
@@ -43,13 +46,12 @@ impl FindingsWriter for Lines {
 
 /// Adds a place, and a colon behind it.
 fn push_place(out: &mut String, place: Place<'_>) -> Result<(), AllocError> {
-    push_shown(out, place.source.name)?;
+    push_file(out, place.source.name)?;
     let Position { line, column } = place.at;
-    out.push_str(":")?;
-    push_number(out, line as u64)?;
-    out.push_str(":")?;
-    push_number(out, column as u64)?;
-    out.push_str(": ")
+    let (mut line_digits, mut column_digits) = (Buffer::new(), Buffer::new());
+    let line = line_digits.format(line as u64);
+    let column = column_digits.format(column as u64);
+    push_all(out, &[":", line, ":", column, ": "])
 }
 
 /// Adds the line of a policy.
@@ -61,12 +63,14 @@ fn push_policy(
 ) -> Result<(), AllocError> {
     push_place(out, place)?;
     out.push_str("policy `")?;
+    let (id, mark) = cut(id);
     push_shown_id(out, id)?;
-    out.push_str(if verdict.is_accepted {
+    let outcome = if verdict.is_accepted {
         "`: accepted"
     } else {
         "`: refused"
-    })?;
+    };
+    push_all(out, &[mark, outcome])?;
     push_requirement(out, verdict.requirement)
 }
 
@@ -76,9 +80,9 @@ fn push_requirement(out: &mut String, requirement: Requirement) -> Result<(), Al
         Requirement::Unsaid => out.push_str("\n"),
         Requirement::NoLevel => out.push_str(", no level is enough\n"),
         Requirement::Level(level) => {
-            out.push_str(", level ")?;
-            push_number(out, u64::from(level.level))?;
-            out.push_str("\n")
+            let mut digits = Buffer::new();
+            let number = digits.format(u64::from(level.level));
+            push_all(out, &[", level ", number, "\n"])
         }
     }
 }
@@ -103,8 +107,7 @@ fn push_finding(
 
 /// Adds an indented line, which belongs to the line before, of these words and a text.
 pub(crate) fn push_indented(out: &mut String, words: &str, text: &str) -> Result<(), AllocError> {
-    out.push_str("  ")?;
-    out.push_str(words)?;
+    push_all(out, &["  ", words])?;
     push_shown(out, text)?;
     out.push_str("\n")
 }
@@ -118,8 +121,7 @@ fn push_message(
     hint: &str,
 ) -> Result<(), AllocError> {
     push_place(out, place)?;
-    out.push_str(kind)?;
-    out.push_str(": ")?;
+    push_all(out, &[kind, ": "])?;
     push_shown(out, text)?;
     if !hint.is_empty() {
         out.push_str("; ")?;
@@ -131,7 +133,7 @@ fn push_message(
 
 /// Adds the line of a file that cannot be read.
 fn push_missing(out: &mut String, file: &str, why: &str) -> Result<(), AllocError> {
-    push_shown(out, file)?;
+    push_file(out, file)?;
     out.push_str(": fault: ")?;
     push_shown(out, why)?;
     out.push_str("\n")
@@ -141,21 +143,19 @@ fn push_missing(out: &mut String, file: &str, why: &str) -> Result<(), AllocErro
 fn push_totals(out: &mut String, totals: &Totals) -> Result<(), AllocError> {
     let mut before = "";
     for (name, count) in totals.counts() {
-        out.push_str(before)?;
-        push_count(out, name, count)?;
+        push_count(out, before, name, count)?;
         before = ", ";
     }
     let data = totals.data;
     if data.is_asked {
-        push_count(out, ", entities", data.entities)?;
-        push_count(out, ", errors in data", data.errors)?;
+        push_count(out, ", ", "entities", data.entities)?;
+        push_count(out, ", ", "errors in data", data.errors)?;
     }
     push_requirement(out, totals.requirement)
 }
 
 /// Adds a count behind its name.
-fn push_count(out: &mut String, name: &str, count: u64) -> Result<(), AllocError> {
-    out.push_str(name)?;
-    out.push_str(": ")?;
-    push_number(out, count)
+fn push_count(out: &mut String, before: &str, name: &str, count: u64) -> Result<(), AllocError> {
+    let mut digits = Buffer::new();
+    push_all(out, &[before, name, ": ", digits.format(count)])
 }

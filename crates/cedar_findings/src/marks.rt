@@ -1,6 +1,7 @@
 //! Characters in the ids, names and texts of a policy that may make it read as another one: marks of direction, because a text
 //! can be shown in another order than it is compared in, and letters that may be taken for others.
 use crate::codes::Code;
+use crate::invisible::shows_nothing;
 use crate::look_alikes::Letters;
 use cedar_types::base::{
     ActionConstraint, EntityReference, EntityType, EntityUID, Expr, ExprKind, Literal, Loc,
@@ -173,26 +174,31 @@ fn add_characters(
 #[derive(Clone, Copy, Default)]
 struct Characters {
     has_marks: bool,
+    has_invisible: bool,
     letters: Letters,
 }
 
 impl Characters {
     fn add(&mut self, c: char) {
         self.has_marks |= is_mark(c);
+        self.has_invisible |= shows_nothing(c);
         self.letters.add(c);
     }
 }
 
 /// The finding of these characters, if they may be taken for others. A whole text in quotes may be of any language, so letters
-/// that look like Latin ones count only in names and ids.
+/// that look like Latin ones, and characters that show nothing, count only in names, ids and attributes.
 fn message(kind: Kind, characters: &Characters) -> Option<(Code, &'static str)> {
     if characters.has_marks {
         return Some((Code::Direction, with_marks(kind)));
     }
+    let is_named = kind != Kind::Text;
+    if is_named && characters.has_invisible {
+        return Some((Code::LookAlike, with_invisible(kind)));
+    }
     if characters.letters.are_mixed() {
         return Some((Code::LookAlike, of_several_scripts(kind)));
     }
-    let is_named = kind != Kind::Text;
     (is_named && characters.letters.look_latin()).then_some((Code::LookAlike, like_latin(kind)))
 }
 
@@ -216,6 +222,15 @@ fn of_several_scripts(kind: Kind) -> &'static str {
     }
 }
 
+fn with_invisible(kind: Kind) -> &'static str {
+    match kind {
+        Kind::Text => "a text with characters that show nothing",
+        Kind::Id => "an id with characters that show nothing",
+        Kind::Name => "a name with characters that show nothing",
+        Kind::Attribute => "an attribute with characters that show nothing",
+    }
+}
+
 fn like_latin(kind: Kind) -> &'static str {
     match kind {
         Kind::Text => "a text of letters that look like Latin ones and are others",
@@ -225,7 +240,10 @@ fn like_latin(kind: Kind) -> &'static str {
     }
 }
 
-/// Whether a character changes the direction in which a text is shown, from there on or inside of it.
+/// Whether a character changes the direction in which a text is shown: from there on, inside of it, or beside it.
 fn is_mark(c: char) -> bool {
-    matches!(c, '\u{202a}'..='\u{202e}' | '\u{2066}'..='\u{2069}')
+    matches!(
+        c,
+        '\u{61c}' | '\u{200e}' | '\u{200f}' | '\u{202a}'..='\u{202e}' | '\u{2066}'..='\u{2069}'
+    )
 }

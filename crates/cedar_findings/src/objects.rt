@@ -107,8 +107,7 @@ fn add_policy(
 ) -> Result<(), AllocError> {
     add_place(json, out, "policy", place)?;
     json.text_at(out, "id", id)?;
-    json.key(out, "accepted")?;
-    json.boolean(out, verdict.is_accepted)?;
+    json.boolean_at(out, "accepted", verdict.is_accepted)?;
     add_requirement(json, out, verdict.requirement)
 }
 
@@ -151,8 +150,7 @@ pub(crate) fn add_texts(
     name: &str,
     texts: &Vec<String>,
 ) -> Result<(), AllocError> {
-    json.key(out, name)?;
-    json.begin_list(out)?;
+    json.list_at(out, name)?;
     for text in texts {
         json.text(out, text.as_str())?;
     }

@@ -1,6 +1,7 @@
 //! Options of the command line in one table, by which they are read, and of which the help, the
 //! completion and the page are made.
 use crate::misuses::Misuse;
+use crate::texts::is_among;
 
 /// An option that takes a value, as the next word or behind a `=`.
 #[derive(Clone, Copy)]
@@ -195,7 +196,7 @@ pub const WORDS: [Word; 23] = [
 
 /// The option of this name, if there is one.
 pub fn option_by_name(name: &str) -> Option<Asks> {
-    for word in WORDS {
+    for word in &WORDS {
         if is_among(word.names, name) {
             return Some(word.asks);
         }
@@ -203,9 +204,24 @@ pub fn option_by_name(name: &str) -> Option<Asks> {
     None
 }
 
-/// Whether one of these names is this one.
-fn is_among(names: &[&str], name: &str) -> bool {
-    names.iter().any(|own| *own == name)
+/// The option whose short name has this letter, if there is one.
+pub fn option_by_letter(letter: char) -> Option<Asks> {
+    for word in &WORDS {
+        for name in word.names {
+            if is_short(name, letter) {
+                return Some(word.asks);
+            }
+        }
+    }
+    None
+}
+
+/// Whether a name is a hyphen and this letter.
+fn is_short(name: &str, letter: char) -> bool {
+    match name.strip_prefix('-') {
+        Some(rest) => rest.len() == 1 && rest.starts_with(letter),
+        None => false,
+    }
 }
 
 impl ValueOption {

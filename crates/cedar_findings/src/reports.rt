@@ -5,6 +5,7 @@ use crate::data_findings::DataVerdict;
 use crate::faults::TextFault;
 use crate::findings::{Finding, Severity, Verdict};
 use crate::formats::Format;
+use crate::lengths::shortened;
 use crate::places::Places;
 use crate::sources::Source;
 use crate::writers::{Entry, FindingsWriter, Place};
@@ -103,8 +104,9 @@ impl<'a> Report<'a> {
     pub fn fault_shown(&mut self, alloc: Global, fault: &TextFault) -> Result<String, AllocError> {
         let mut shown = String::new(alloc);
         let place = self.place(fault.place);
+        let text = shortened(alloc, fault.text.clone()?)?;
         self.format
-            .add(&mut shown, Entry::Fault(place, fault.text.as_str()))?;
+            .add(&mut shown, Entry::Fault(place, text.as_str()))?;
         Ok(shown)
     }
 

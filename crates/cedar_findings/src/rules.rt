@@ -66,8 +66,8 @@ pub fn description(code: Code) -> &'static str {
              it may be shown in another order than it is compared in."
         }
         Code::LookAlike => {
-            "A text, an id or an attribute has letters of several scripts, or letters that look like those \
-             of Latin, so that a reader may take it for another."
+            "A text, an id or an attribute has letters of several scripts, letters that look like those of \
+             Latin, or characters that show nothing, so that a reader may take it for another."
         }
         Code::Environments => {
             "By the newer schema a policy may apply in an environment in which it could not by the older one, \
@@ -125,7 +125,7 @@ pub fn help(code: Code) -> &'static str {
         Code::Impossible => "Correct the part that is never true, or remove the policy.",
         Code::NoAction => "Correct the scope, or the `appliesTo` of the action in the schema.",
         Code::Direction => "Remove these characters, unless the text is meant to have them.",
-        Code::LookAlike => "Write the text in the letters of one script.",
+        Code::LookAlike => "Write the text in visible letters of one script.",
         Code::Environments => "Restrict the scope of the policy, if it must not apply there.",
         Code::DataType => "Correct the value, or the type in the schema.",
         Code::DataMissing => "Add what is missing, or make the attribute optional in the schema.",

@@ -7,11 +7,13 @@ use crate::data_findings::DataFinding;
 use crate::environment_changes::EnvironmentChanges;
 use crate::findings::Finding;
 use crate::json::JsonWriter;
+use crate::lengths::cut;
 use crate::objects;
 use crate::totals::Totals;
 use crate::writers::{Entry, FindingsWriter, Place};
 use beginning::add_beginning;
 use cedar_reading::Position;
+use memchr::memchr2;
 use std::alloc::AllocError;
 
 /// The level of a result that refuses something.
@@ -51,12 +53,12 @@ impl FindingsWriter for Sarif {
             }
             Entry::Fault(place, text) => {
                 begin_result(json, out, Code::Fault, ERROR)?;
-                json.text_part(out, text)?;
+                add_part(json, out, "", text)?;
                 add_place(json, out, place)?;
             }
             Entry::Missing(file, why) => {
                 begin_result(json, out, Code::File, ERROR)?;
-                json.text_part(out, why)?;
+                add_part(json, out, "", why)?;
                 add_file(json, out, file)?;
             }
         }
@@ -96,7 +98,7 @@ impl Sarif {
         }
         let json = &mut self.json;
         begin_result(json, out, Code::Environments, "note")?;
-        add_part(json, out, "policy `", id)?;
+        add_id(json, out, id)?;
         json.text_part(out, "`: other environments")?;
         for gained in &environments.gained {
             add_part(json, out, "; newly for ", gained.as_str())?;
@@ -128,8 +130,7 @@ fn begin_result(
     json.begin_object(out)?;
     json.text_at(out, "ruleId", code.text())?;
     json.text_at(out, "level", level)?;
-    json.key(out, "message")?;
-    json.begin_object(out)?;
+    json.object_at(out, "message")?;
     json.key(out, "text")?;
     json.begin_text(out)
 }
@@ -141,7 +142,7 @@ fn add_finding(
     id: &str,
     finding: &Finding,
 ) -> Result<(), AllocError> {
-    add_part(json, out, "policy `", id)?;
+    add_id(json, out, id)?;
     add_part(json, out, "`: ", finding.text.as_str())?;
     if !finding.hint.is_empty() {
         add_part(json, out, "; ", finding.hint.as_str())?;
@@ -157,7 +158,7 @@ fn add_finding(
 
 /// Adds the number of further findings in the policy of this id.
 fn add_rest(json: &JsonWriter, out: &mut String, id: &str, count: usize) -> Result<(), AllocError> {
-    add_part(json, out, "policy `", id)?;
+    add_id(json, out, id)?;
     json.text_part(out, "`: ")?;
     json.number_part(out, count as u64)?;
     json.text_part(out, " more findings")
@@ -165,14 +166,22 @@ fn add_rest(json: &JsonWriter, out: &mut String, id: &str, count: usize) -> Resu
 
 /// Adds a mistake in data, with its hint.
 fn add_data(json: &JsonWriter, out: &mut String, finding: &DataFinding) -> Result<(), AllocError> {
-    json.text_part(out, finding.text.as_str())?;
+    add_part(json, out, "", finding.text.as_str())?;
     if !finding.hint.is_empty() {
         add_part(json, out, "; ", finding.hint.as_str())?;
     }
     Ok(())
 }
 
-/// Adds a part of a message, behind the words that lead to it.
+/// Adds the policy that a message is about.
+fn add_id(json: &JsonWriter, out: &mut String, id: &str) -> Result<(), AllocError> {
+    let (id, mark) = cut(id);
+    add_part(json, out, "policy `", id)?;
+    json.text_part(out, mark)
+}
+
+/// Adds a part of a message, behind the words that lead to it. Viewers take `[a](b)` in a message for a link, and `{0}` for a
+/// placeholder, so the marks of a part that has one are escaped as SARIF says.
 fn add_part(
     json: &JsonWriter,
     out: &mut String,
@@ -180,32 +189,60 @@ fn add_part(
     text: &str,
 ) -> Result<(), AllocError> {
     json.text_part(out, words)?;
-    json.text_part(out, text)
+    if memchr2(b']', b'}', text.as_bytes()).is_none() {
+        return json.text_part(out, text);
+    }
+    add_escaped(json, out, text)
+}
+
+/// Adds a part of a message that has brackets or braces.
+fn add_escaped(json: &JsonWriter, out: &mut String, text: &str) -> Result<(), AllocError> {
+    let has_link = text.contains("](");
+    let has_placeholder = has_placeholder(text);
+    if !has_link && !has_placeholder {
+        return json.text_part(out, text);
+    }
+    for c in text.chars() {
+        let escape = match c {
+            '[' | ']' | '\\' if has_link => "\\",
+            '{' if has_placeholder => "{",
+            '}' if has_placeholder => "}",
+            _ => "",
+        };
+        json.text_part(out, escape)?;
+        json.char_part(out, c)?;
+    }
+    Ok(())
+}
+
+/// Whether a text has digits between braces.
+fn has_placeholder(text: &str) -> bool {
+    for part in text.split('{').skip(1) {
+        let behind = part.trim_start_matches(|c: char| c.is_ascii_digit());
+        if behind.len() < part.len() && behind.starts_with('}') {
+            return true;
+        }
+    }
+    false
 }
 
 /// Ends the message, and begins its place with a file.
 fn add_file(json: &mut JsonWriter, out: &mut String, file: &str) -> Result<(), AllocError> {
-    json.end_text(out)?;
-    json.end_object(out)?;
-    json.key(out, "locations")?;
-    json.begin_list(out)?;
+    json.end_nested(out, "\"}")?;
+    json.list_at(out, "locations")?;
     json.begin_object(out)?;
-    json.key(out, "physicalLocation")?;
-    json.begin_object(out)?;
-    json.key(out, "artifactLocation")?;
-    json.begin_object(out)?;
+    json.object_at(out, "physicalLocation")?;
+    json.object_at(out, "artifactLocation")?;
     json.key(out, "uri")?;
     json.begin_text(out)?;
     add_reference(json, out, file)?;
-    json.end_text(out)?;
-    json.end_object(out)
+    json.end_nested(out, "\"}")
 }
 
 /// Ends the message, and begins its place with a file and a region of it.
 fn add_place(json: &mut JsonWriter, out: &mut String, place: Place<'_>) -> Result<(), AllocError> {
     add_file(json, out, place.source.name)?;
-    json.key(out, "region")?;
-    json.begin_object(out)?;
+    json.object_at(out, "region")?;
     let Position { line, column } = place.at;
     json.number_at(out, "startLine", line as u64)?;
     json.number_at(out, "startColumn", column as u64)?;
@@ -217,10 +254,7 @@ fn add_place(json: &mut JsonWriter, out: &mut String, place: Place<'_>) -> Resul
 
 /// Ends the place of a result, and the result.
 fn end_result(json: &mut JsonWriter, out: &mut String) -> Result<(), AllocError> {
-    json.end_object(out)?;
-    json.end_object(out)?;
-    json.end_list(out)?;
-    json.end_object(out)
+    json.end_nested(out, "}}]}")
 }
 
 /// Adds the name of a file as a reference: a byte that is no letter, no digit and none of `-._~/` is written as `%` with its
@@ -253,18 +287,13 @@ fn digit(number: u8) -> char {
 fn add_end(json: &mut JsonWriter, out: &mut String, totals: &Totals) -> Result<(), AllocError> {
     json.end_list(out)?;
     json.begin_line(out)?;
-    json.key(out, "invocations")?;
-    json.begin_list(out)?;
+    json.list_at(out, "invocations")?;
     json.begin_object(out)?;
-    json.key(out, "executionSuccessful")?;
-    json.boolean(out, totals.faults == 0)?;
-    json.end_object(out)?;
-    json.end_list(out)?;
+    json.boolean_at(out, "executionSuccessful", totals.faults == 0)?;
+    json.end_nested(out, "}]")?;
     json.key(out, "properties")?;
     objects::add_totals(json, out, totals)?;
     json.end_line(out)?;
-    json.end_object(out)?;
-    json.end_list(out)?;
-    json.end_object(out)?;
+    json.end_nested(out, "}]}")?;
     json.end_line(out)
 }

@@ -1,7 +1,7 @@
 //! Writers of findings: a format writes its beginning, each entry, and its end.
 use crate::columns::Columns;
 use crate::data_findings::DataFinding;
-use crate::escapes::Shown;
+use crate::escapes::ShownFile;
 use crate::findings::{Finding, Severity, Verdict};
 use crate::places::position_behind;
 use crate::sources::Source;
@@ -33,7 +33,7 @@ impl Place<'_> {
 
 impl fmt::Display for Place<'_> {
     fn fmt<W: fmt::Write>(&self, f: &mut fmt::Formatter<W>) -> fmt::Result {
-        let file = Shown(self.source.name);
+        let file = ShownFile(self.source.name);
         let Position { line, column } = self.at;
         write!(f, "{file}:{line}:{column}")
     }

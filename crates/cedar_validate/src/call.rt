@@ -92,7 +92,7 @@ impl<R: Files + AllocGlobal + Input, O: Write, T: Write> Call<'_, R, O, T> {
         };
         let text = text.as_str();
         let source = Source { name, text };
-        let begun = ShownPolicies::begin(alloc, settings, source, &mut self.output)?;
+        let begun = ShownPolicies::begin(alloc, settings, source, shared, &mut self.output)?;
         let Some(mut policies) = begun else {
             return Ok(());
         };

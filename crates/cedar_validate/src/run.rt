@@ -6,7 +6,7 @@ use cedar_findings::completions::completion;
 use cedar_findings::help::{help, usage};
 use cedar_findings::man_page::man_page;
 use std::io;
-use std::io::Write;
+use std::io::{ErrorKind, Write};
 use std::rt::Files;
 
 /// Performs the request of these words, and answers the exit status: 0 if all policies are accepted, 1 if some are refused or
@@ -19,6 +19,8 @@ pub fn run<R: Files + AllocGlobal + Input, O: Write, E: Write, T: Write>(
 ) -> u8 {
     match answer(call, words, err) {
         Ok(status) => status,
+        // nobody reads the output any more, as behind `| head`, so there is nothing to say
+        Err(error) if error.kind() == ErrorKind::BrokenPipe => 2,
         Err(error) => {
             let _ = writeln!(err, "cedar-validate: {error}");
             2

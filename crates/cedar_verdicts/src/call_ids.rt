@@ -10,10 +10,19 @@ use std::alloc::{AllocError, Global};
 use std::collections::BTreeMap;
 use std::rc::RcStr;
 
-/// The ids so far, each with the name of the first file that has it.
+/// The ids so far, each with the first file that has it. A file is known by its number, because one name may be given twice.
 #[derive(Drop)]
 pub struct CallIds {
-    files: BTreeMap<RcStr, RcStr>,
+    files: BTreeMap<RcStr, FirstFile>,
+    /// The number of the file whose policies come next.
+    number: usize,
+}
+
+/// The first file with an id.
+#[derive(Drop)]
+struct FirstFile {
+    number: usize,
+    name: RcStr,
 }
 
 impl CallIds {
@@ -21,7 +30,13 @@ impl CallIds {
     pub fn new(alloc: Global) -> CallIds {
         CallIds {
             files: BTreeMap::new(alloc),
+            number: 0,
         }
+    }
+
+    /// Begins the next file of the call.
+    pub fn begin_file(&mut self) {
+        self.number = self.number.saturating_add(1);
     }
 
     /// Takes note of the id of a policy of this file. If another file has the id, the policy is
@@ -41,14 +56,18 @@ impl CallIds {
         let id = policy.id.text.clone()?;
         if let Some(first) = self.files.get(&id) {
             // the set of one file has refused its own repeats already
-            if first.as_str() == file {
+            if first.number == self.number {
                 return Ok(());
             }
-            let other = Shown(first.as_str());
+            let other = Shown(first.name.as_str());
             let text = format!(in alloc; "a policy of {other} has the same id")?;
             return refuse(alloc, policy, text.as_str(), verdict);
         }
-        self.files.insert(id, RcStr::from_str(alloc, file)?)?;
+        let first = FirstFile {
+            number: self.number,
+            name: RcStr::from_str(alloc, file)?,
+        };
+        self.files.insert(id, first)?;
         Ok(())
     }
 }

@@ -12,6 +12,7 @@ use cedar_findings::columns::Columns;
 use cedar_findings::data_findings::{DataFinding, DataVerdict};
 use cedar_findings::faults::{TextFault, Written};
 use cedar_findings::json_faults::form_fault;
+use cedar_findings::lengths::shortened;
 use cedar_findings::places::Places;
 use cedar_json::FormError;
 use cedar_reading::Position;
@@ -149,10 +150,11 @@ fn more_than_told(alloc: Global, text: &str) -> Result<DataFinding, AllocError> 
 fn unread(alloc: Global, text: &ExtensionText) -> Result<DataFinding, AllocError> {
     let function = text.constructor.name();
     let message = &text.text;
+    let why = format!(in alloc; "`{function}` cannot read `{message}`")?;
     Ok(DataFinding {
         place: text.place,
         code: Code::BadArgument,
-        text: format!(in alloc; "`{function}` cannot read `{message}`")?,
+        text: shortened(alloc, why)?,
         hint: String::new(alloc),
     })
 }
@@ -179,8 +181,8 @@ fn finding_of(
     Ok(DataFinding {
         place: fault.place,
         code: code_of(&fault.problem),
-        text,
-        hint: hint(alloc, schema, &fault.problem)?,
+        text: shortened(alloc, text)?,
+        hint: shortened(alloc, hint(alloc, schema, &fault.problem)?)?,
     })
 }
 

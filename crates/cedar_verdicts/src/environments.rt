@@ -1,4 +1,5 @@
 // Environments of an error, as a finding shows them.
+use cedar_findings::lengths::cut_name;
 use cedar_typechecker::survey::{Environment, Environments, MAX_ENVIRONMENTS_LISTED};
 use cedar_types::base::{EntityType, EntityUID};
 use std::alloc::{AllocError, Global};
@@ -63,8 +64,8 @@ fn environment_shown(alloc: Global, environment: &Environment) -> Result<String,
         &request.principal,
         &request.resource,
     )?;
-    push_slot(&mut shown, "?principal", &environment.principal_slot)?;
-    push_slot(&mut shown, "?resource", &environment.resource_slot)?;
+    push_slot(alloc, &mut shown, "?principal", &environment.principal_slot)?;
+    push_slot(alloc, &mut shown, "?resource", &environment.resource_slot)?;
     Ok(shown)
 }
 
@@ -75,16 +76,23 @@ pub fn request_shown(
     principal: &EntityType,
     resource: &EntityType,
 ) -> Result<String, AllocError> {
+    let action = cut_name(alloc, action.to_string(alloc)?)?;
+    let principal = cut_name(alloc, principal.to_string(alloc)?)?;
+    let resource = cut_name(alloc, resource.to_string(alloc)?)?;
     format!(in alloc; "{action} by {principal} on {resource}")
 }
 
 fn push_slot(
+    alloc: Global,
     shown: &mut String,
     name: &str,
     linked: &Option<EntityType>,
 ) -> Result<(), AllocError> {
     match linked {
         None => Ok(()),
-        Some(linked) => write!(shown, " with {name} of {linked}"),
+        Some(linked) => {
+            let linked = cut_name(alloc, linked.to_string(alloc)?)?;
+            write!(shown, " with {name} of {linked}")
+        }
     }
 }

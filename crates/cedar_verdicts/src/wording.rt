@@ -5,6 +5,7 @@ use crate::causes::{Cause, Found, types_shown};
 use crate::environments::ShownEnvironments;
 use cedar_findings::findings::Finding;
 use cedar_findings::hints::{hint_for_error, hint_for_warning};
+use cedar_findings::lengths::{cut_name, shortened};
 use cedar_reading::Position;
 use cedar_types::base::{Message, Template, ValidatorSchema};
 use std::alloc::{AllocError, Global};
@@ -114,8 +115,9 @@ fn finding_of(
     let Mistake { first, others } = mistake;
     let text = text_of(alloc, first.cause)?;
     let place = Some(first.place);
+    let text = shortened(alloc, text)?;
     let mut finding = Finding::new(alloc, about.policy, first.code(), place, text.as_str())?;
-    finding.hint = hint(alloc, about, first.cause)?;
+    finding.hint = shortened(alloc, hint(alloc, about, first.cause)?)?;
     finding.also = types_of(alloc, others.as_slice())?;
     finding.environments = environments_of(alloc, about.applicable, mistake)?;
     Ok(finding)
@@ -158,7 +160,7 @@ fn types_of(alloc: Global, errors: &[Found<'_>]) -> Result<Vec<String>, AllocErr
     let mut types = Vec::new(alloc);
     for it in errors.iter().take(MAX_ALSO) {
         if let Cause::Error(error, _) = it.cause {
-            types.push(types_shown(alloc, error)?)?;
+            types.push(cut_name(alloc, types_shown(alloc, error)?)?)?;
         }
     }
     let others = errors.len().saturating_sub(MAX_ALSO);

@@ -142,17 +142,17 @@ pub fn is_plain(text: &str) -> bool {
 fn nearest_name(alloc: Global, unknown: &str) -> Result<Option<&'static str>, AllocError> {
     let mut search = Search::new(alloc, unknown)?;
     let mut nearest = None;
-    for name in METHODS {
+    for name in &METHODS {
         if search.is_nearer(name, false)? {
-            nearest = Some(name);
+            nearest = Some(*name);
         }
     }
-    for constructor in CONSTRUCTORS {
+    for constructor in &CONSTRUCTORS {
         if search.is_nearer(constructor.name(), false)? {
             nearest = Some(constructor.name());
         }
     }
-    for method in EXTENSION_METHODS {
+    for method in &EXTENSION_METHODS {
         if search.is_nearer(method.name, false)? {
             nearest = Some(method.name);
         }

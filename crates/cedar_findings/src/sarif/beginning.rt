@@ -16,28 +16,21 @@ pub(crate) fn add_beginning(
     json.begin_object(out)?;
     json.text_at(out, "$schema", SCHEMA)?;
     json.text_at(out, "version", "2.1.0")?;
-    json.key(out, "runs")?;
-    json.begin_list(out)?;
+    json.list_at(out, "runs")?;
     json.begin_object(out)?;
-    json.key(out, "tool")?;
-    json.begin_object(out)?;
-    json.key(out, "driver")?;
-    json.begin_object(out)?;
+    json.object_at(out, "tool")?;
+    json.object_at(out, "driver")?;
     json.text_at(out, "name", "cedar-validate")?;
     json.text_at(out, "version", "0.1.0")?;
-    json.key(out, "rules")?;
-    json.begin_list(out)?;
-    for code in CODES {
+    json.list_at(out, "rules")?;
+    for code in &CODES {
         json.begin_line(out)?;
-        add_rule(json, out, code)?;
+        add_rule(json, out, *code)?;
     }
-    json.end_list(out)?;
-    json.end_object(out)?;
-    json.end_object(out)?;
+    json.end_nested(out, "]}}")?;
     json.begin_line(out)?;
     json.text_at(out, "columnKind", column_kind)?;
-    json.key(out, "results")?;
-    json.begin_list(out)
+    json.list_at(out, "results")
 }
 
 /// Adds a kind of finding. Its `helpUri` leads to Cedar's documentation, because SARIF wants an absolute address there.
@@ -58,8 +51,7 @@ fn add_message(
     name: &str,
     text: &str,
 ) -> Result<(), AllocError> {
-    json.key(out, name)?;
-    json.begin_object(out)?;
+    json.object_at(out, name)?;
     json.text_at(out, "text", text)?;
     json.end_object(out)
 }

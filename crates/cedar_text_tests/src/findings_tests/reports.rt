@@ -1,13 +1,16 @@
 // Reports of a policy with more findings than are shown.
 use cedar_findings::codes::Code;
 use cedar_findings::columns::Columns;
+use cedar_findings::faults::TextFault;
 use cedar_findings::findings::{Finding, Requirement, Verdict};
 use cedar_findings::formats::Format;
-use cedar_findings::reports::Report;
+use cedar_findings::lines::Lines;
+use cedar_findings::reports::{Report, render_missing};
 use cedar_findings::sources::Source;
 use cedar_findings::totals::Totals;
 use cedar_findings::writers::FindingsWriter;
 use cedar_reading::Policies;
+use cedar_types::base::Loc;
 use std::alloc::Global;
 use std::test::Fail;
 
@@ -121,4 +124,64 @@ fn nothing_found(rt: HostRuntime) -> Result<(), Fail> {
         assert_eq!(rt; out.as_str().lines().count(), lines, "{name}");
     }
     Ok(())
+}
+
+/// Texts of findings, and how a message of SARIF says them: neither as a link nor as a placeholder.
+const MESSAGES: [(&str, &str); 8] = [
+    ("[a](https://b.example)", r"\\[a\\](https://b.example)"),
+    (r"x\](y", r"x\\\\\\](y"),
+    ("`[]` and [a] (b)", "`[]` and [a] (b)"),
+    (r"a\b", r"a\\b"),
+    ("{0}", "{{0}}"),
+    ("{a: {12}}", "{{a: {{12}}}}"),
+    ("{ a: Long }, {}, {1 }", "{ a: Long }, {}, {1 }"),
+    ("[{1}](c)", r"\\[{{1}}\\](c)"),
+];
+
+#[test]
+fn messages_of_sarif(rt: HostRuntime) -> Result<(), Fail> {
+    let alloc = rt.alloc();
+    for (text, wanted) in &MESSAGES {
+        let place = Loc { start: 0, end: 1 };
+        let text = String::from_str(alloc, text)?;
+        let shown = fault_shown(alloc, "sarif", "f", TextFault { place, text })?;
+        let message = format!(in alloc; "\"message\":{{\"text\":\"{wanted}\"}},")?;
+        let is_there = shown.contains(message.as_str());
+        assert_eq!(rt; is_there, true, "{shown} has no {message}");
+    }
+    Ok(())
+}
+
+/// Names of files, and how a line begins with them: with no command to a code host.
+const FILES: [(&str, &str); 5] = [
+    ("f", "f:"),
+    ("::error file=x::y.cedar", "./::error file=x::y.cedar:"),
+    (" \u{a0}::error::y", "./ \\u{a0}::error::y:"),
+    ("a::b", "a::b:"),
+    ("##[error]y", "#\\u{23}[error]y:"),
+];
+
+#[test]
+fn names_of_files(rt: HostRuntime) -> Result<(), Fail> {
+    let alloc = rt.alloc();
+    for (file, wanted) in &FILES {
+        let place = Loc { start: 0, end: 1 };
+        let text = String::from_str(alloc, "e")?;
+        let shown = fault_shown(alloc, "lines", file, TextFault { place, text })?;
+        assert_eq!(rt; shown.starts_with(wanted), true, "{shown}");
+        let mut format = Format::Lines(Lines);
+        let missing = render_missing(alloc, &mut format, file, "cannot be read")?;
+        assert_eq!(rt; missing.starts_with(wanted), true, "{missing}");
+    }
+    Ok(())
+}
+
+/// The report of a fault in a file of this name.
+fn fault_shown(alloc: Global, format: &str, name: &str, fault: TextFault) -> Result<String, Fail> {
+    let Some(format) = Format::by_name(format) else {
+        return Ok(String::new(alloc));
+    };
+    let source = Source { name, text: TEXT };
+    let mut report = Report::new(alloc, format, Columns::Characters, source);
+    Ok(report.fault_shown(alloc, &fault)?)
 }

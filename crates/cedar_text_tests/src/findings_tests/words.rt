@@ -16,7 +16,24 @@ const PARSE_ALONE: &str =
 const SINCE_ALONE: &str = "`--since` is for policies alone: without `--entities` and `--request`";
 
 /// Command lines, with their task or their misuse.
-const LINES: [(&str, &str); 42] = [
+const LINES: [(&str, &str); 58] = [
+    // short options that one word joins, and their values
+    ("-ss -pp", "validation of s: p"),
+    ("-qss -pp", "validation of s: p, quiet"),
+    ("-qs s p", "validation of s: p, quiet"),
+    ("-qs=s -qp=p", "validation of s: p, quiet"),
+    ("s -qkl p", "validation of s: p, links l, quiet"),
+    ("-s=s -p=a=b", "validation of s: a=b"),
+    ("--schema=s --policies=a=b", "validation of s: a=b"),
+    ("-sh p", "validation of h: p"),
+    ("-qh", "help"),
+    ("s -qV", "version"),
+    ("s p -qs", "`--schema` takes a file"),
+    ("s p -qx", "there is no option `-qx`"),
+    ("s p -xq", "there is no option `-xq`"),
+    ("s p --qs", "there is no option `--qs`"),
+    ("-q -- -qs -ss", "validation of -qs: -ss, quiet"),
+    ("-s -qh p", "validation of -qh: p"),
     ("-s s -p p", "validation of s: p"),
     ("-s=s -p=p", "validation of s: p"),
     ("--schema s --policies p", "validation of s: p"),

@@ -32,8 +32,12 @@ impl<'a> ShownPolicies<'a> {
         alloc: Global,
         settings: &Settings<'_, C>,
         source: Source<'a>,
+        shared: &mut Shared,
         output: &mut Output,
     ) -> Result<Option<ShownPolicies<'a>>, AllocError> {
+        if let Some(ids) = &mut shared.ids {
+            ids.begin_file();
+        }
         let text = PolicyText::new(settings.syntax, source.text);
         let said = match text.verdicts(alloc, settings.validator.extensions())? {
             Ok(said) => said,

@@ -38,7 +38,7 @@ fn add_file(
     shared: &mut Shared,
     output: &mut Output,
 ) -> Result<(), AllocError> {
-    let Some(mut policies) = ShownPolicies::begin(alloc, settings, source, output)? else {
+    let Some(mut policies) = ShownPolicies::begin(alloc, settings, source, shared, output)? else {
         return Ok(());
     };
     for _ in 0..policies.most() {
@@ -123,6 +123,22 @@ fn quiet_policies_and_ids(rt: HostRuntime) -> Result<(), Fail> {
     assert_eq!(rt;
         shown.as_str(),
         "g:1:1: policy `a`: refused, level 0\ng:1:1: error: a policy of f has the same id\n"
+    );
+    Ok(())
+}
+
+/// A file that is given twice has the ids of two files.
+#[test]
+fn one_file_twice(rt: HostRuntime) -> Result<(), Fail> {
+    let alloc = rt.alloc();
+    let shared = Shared {
+        ids: Some(CallIds::new(alloc)),
+        links: Links::none(alloc),
+    };
+    let shown = shown_of(alloc, true, shared, &[("f", SECOND), ("f", SECOND)])?;
+    assert_eq!(rt;
+        shown.as_str(),
+        "f:1:1: policy `a`: refused, level 0\nf:1:1: error: a policy of f has the same id\n"
     );
     Ok(())
 }

@@ -120,7 +120,8 @@ fn show_policies(
         ids: None,
         links: Links::none(alloc),
     };
-    let Some(mut policies) = ShownPolicies::begin(alloc, settings, source, output)? else {
+    let Some(mut policies) = ShownPolicies::begin(alloc, settings, source, &mut shared, output)?
+    else {
         return Ok(());
     };
     for _ in 0..policies.most() {
