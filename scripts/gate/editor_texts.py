@@ -3,7 +3,8 @@
 
 The grammars of editors/vscode give texts their scopes (textmate.py): those that the tables below say, and some scope to each word of
 the examples and of docs/READING.md's grammar. The extension's files must be there, and agree with each other and with the settings
-that the server reads. The last line counts what holds and what does not.
+that the server reads. The task of VS Code in docs/EDITORS.md must understand what cedar-validate writes. The last line counts what
+holds and what does not.
 """
 import csv
 import json
@@ -17,6 +18,7 @@ TOP = Path(__file__).resolve().parents[2]
 FOLDER = TOP / "editors" / "vscode"
 PACKAGE = json.loads((FOLDER / "package.json").read_text(encoding="utf8"))
 READING = (TOP / "docs" / "READING.md").read_text(encoding="utf8")
+EDITORS = (TOP / "docs" / "EDITORS.md").read_text(encoding="utf8")
 SERVER = TOP / "crates" / "cedar_language_server" / "src" / "notes.rt"
 # Words between « and » in a piece of a file, and the scope that each of their characters has.
 TOUR = {
@@ -215,9 +217,21 @@ def package(counts):
     counts.want("the settings that the server reads", settings == read, (settings, read))
     readme = (FOLDER / "README.md").read_text(encoding="utf8")
     name = f"{PACKAGE['name']}-{PACKAGE['version']}.vsix"
-    pages = readme, (TOP / "docs" / "EDITORS.md").read_text(encoding="utf8")
-    counts.want("the name of the package in the pages", all(name in page for page in pages), name)
+    counts.want("the name of the package in the pages", name in readme and name in EDITORS, name)
     counts.want("the settings in the README", not (gone := [it for it in settings if f"`{it}`" not in readme]), gone)
+
+
+def task(counts):
+    """The pattern of the task in docs/EDITORS.md takes findings apart, in the form of docs/READING.md, and no other lines."""
+    section = EDITORS.split("\n## Without a server\n")[1].split("\n## ")[0]
+    pattern = json.loads(re.search(r"^```json\n(.*?)^```$", section, re.M | re.S)[1])["problemMatcher"]["pattern"]
+    keys = ("file", "line", "column", "severity", "message")
+    for severity in ("error", "warning", "fault"):
+        found = re.search(pattern["regexp"], f"a b/c.cedar:4:8: {severity}: TEXT: 1:2; HINT")
+        got = [found[pattern[key]] for key in keys] if found else None
+        counts.want(f"the task takes a line of {severity}", got == ["a b/c.cedar", "4", "8", severity, "TEXT: 1:2; HINT"], got)
+    for line in ("c.cedar:2:1: policy `a`: refused", "  4 | when { resource.isPubic };", "policies: 1, accepted: 0, refused: 1, warnings: 0, faults: 0"):
+        counts.want(f"the task passes over {line}", not re.search(pattern["regexp"], line))
 
 
 def main():
@@ -227,6 +241,7 @@ def main():
     examples(counts, grammars)
     words_of_reading(counts, grammars)
     package(counts)
+    task(counts)
     print(f"{counts.passed} passed, {counts.failed} failed")
     return 1 if counts.failed else 0
 
