@@ -2,31 +2,24 @@
 """Tries the language server as editors use it: scripts/editor_cases.py [--record] [PROGRAM].
 
 PROGRAM is cedar_language_server, by default as it is built without a proof. A client sends messages in each phase, frames that
-no editor sends, texts with characters of one to four bytes, edits of ranges, and 10,000 changes, and refuses each growth of
-memory of a session in turn. Neovim, if the machine has it, opens examples/editors/photos/edit.cedar, asks, and takes fixes by
-examples/editors/session.lua; what it sees must be the transcript in docs/EDITORS.md, where --record writes it. Vim jumps by
-`cedar-validate --columns bytes`. An editor that is missing is skipped, which is said. The last line counts what went well and
-what did not.
+no editor sends, texts with characters of one to four bytes, edits of ranges, and 10,000 changes. Each editor that the machine has is
+set up by the blocks of docs/EDITORS.md (gate/editors.py), and does what a person does, by a session of examples/editors. What
+Neovim sees must be the transcript in docs/EDITORS.md, where --record writes it. An editor that is missing is skipped, which is said.
+The last line counts what went well and what did not.
 """
-import json
-import os
 import re
-import shutil
 import subprocess
 import sys
 import tempfile
 from pathlib import Path
 
 import unproved
+from gate import editors
 from gate.editor_client import Client, NoAnswer, document, note, position, request
 
-TOP = Path(__file__).resolve().parent.parent
-EXAMPLES = TOP / "examples" / "editors"
-PAGE = TOP / "docs" / "EDITORS.md"
-TRANSCRIPT = re.compile(r"(<!-- transcript of scripts/editor_cases.py -->\n\n````text\n).*?(````\n\n<!-- end of the transcript -->)", re.S)
 SECONDS = 600
 # Codes of JSON-RPC and of the protocol.
-NO_JSON, NO_REQUEST, NO_METHOD, BAD_PARAMETERS, NO_MEMORY, NOT_INITIALIZED = -32700, -32600, -32601, -32602, -32603, -32002
+NO_JSON, NO_REQUEST, NO_METHOD, BAD_PARAMETERS, NOT_INITIALIZED = -32700, -32600, -32601, -32602, -32002
 SCHEMA = "entity User = { name: String };\naction view appliesTo { principal: User, resource: User };\n"
 ODD = b'{"jsonrpc":"2.0","id":50,"method":"x"}'
 ODD_FRAME = b"Content-Length: %d\r\n\r\n" % len(ODD) + ODD
@@ -42,10 +35,6 @@ SAME = {
     "a line of 8,000 bytes": b"X: " + b"y" * 8000 + b"\r\nContent-Length: %d\r\n\r\n" % len(ODD) + ODD,
 }
 LETTERS = ("", "é", "𝒳", "👩‍👩‍👧", "\t", "日本", "\u2028", "a\u0301")
-
-
-class Missing(Exception):
-    """An editor that the machine has not."""
 
 
 class Counts:
@@ -202,51 +191,6 @@ def changes(counts, program, room):
         counts.want("the end behind 10,000 changes", (status := client.end()) == 0, status)
 
 
-def session(room):
-    """A session with each kind of request and notification, as bytes."""
-    uri = f"file://{room}/a.cedar"
-    text = 'permit(principal, action, resource) when { principal.nam == "a" };'
-    params = position(uri, 0, 54)
-    range_ = {"start": params["position"], "end": params["position"]}
-    edit = {"textDocument": {"uri": uri, "version": 2}, "contentChanges": [{"range": range_, "text": "e"}]}
-    asked = [request(it, f"textDocument/{method}", params) for it, method in enumerate(("hover", "completion", "definition", "documentSymbol"), 2)]
-    asked.append(request(6, "textDocument/codeAction", {**params, "range": range_, "context": {"diagnostics": []}}))
-    told = [note("textDocument/didOpen", document(uri, text)), *asked, note("textDocument/didChange", edit), note("textDocument/didSave", params)]
-    return [request(1, "initialize", {"capabilities": {}}), note("initialized", {}), *told, note("textDocument/didClose", params), request(7, "shutdown"), note("exit")]
-
-
-def neovim(counts, program, room, is_recorded):
-    """The transcript of Neovim."""
-    if shutil.which("nvim") is None:
-        raise Missing("nvim")
-    photos = room / "photos"
-    shutil.copytree(EXAMPLES / "photos", photos)
-    env = {**os.environ, "SERVER": str(program), "FOLDER": str(photos), "HOME": str(room), "XDG_STATE_HOME": str(room)}
-    done = subprocess.run(["nvim", "--headless", "-u", "NONE", "-i", "NONE", "-c", f"luafile {EXAMPLES / 'session.lua'}"], env=env, stdin=subprocess.DEVNULL, capture_output=True, text=True, timeout=SECONDS)
-    seen = done.stdout.replace("\r\n", "\n")
-    page = PAGE.read_text(encoding="utf8")
-    if is_recorded:
-        PAGE.write_text(TRANSCRIPT.sub(lambda it: it[1] + seen + it[2], page), encoding="utf8")
-    wanted = TRANSCRIPT.search(page)
-    counts.want("the transcript of docs/EDITORS.md", is_recorded or wanted and wanted[0] == wanted[1] + seen + wanted[2], seen + done.stderr)
-    counts.want("Neovim stops the server", seen.endswith("stopped: true\n"), seen + done.stderr)
-
-
-def vim(counts, program, room):
-    """Vim jumps to the first finding by `:make`, behind letters of several bytes."""
-    if shutil.which("vim") is None:
-        raise Missing("vim")
-    validate = unproved.program("cedar_validate")
-    (room / "v.cedarschema").write_text(SCHEMA, encoding="utf8")
-    (room / "v.cedar").write_text('permit(principal, action, resource)\nwhen { "é👍" == "é👍" && principal.nam == "a" };\n', encoding="utf8")
-    script = room / "make.vim"
-    script.write_text(f"set makeprg={validate}\\ --columns\\ bytes\\ v.cedarschema\\ %\nset errorformat=%f:%l:%c:\\ %t%*[a-z]:\\ %m\nedit v.cedar\nsilent make\n"
-                      "call writefile([line('.') . ':' . strpart(getline('.'), col('.') - 1, 13)], 'at')\nqall!\n")
-    subprocess.run(["vim", "-es", "-u", "NONE", "-i", "NONE", "-S", script.name], cwd=room, stdin=subprocess.DEVNULL, capture_output=True, timeout=SECONDS, env={**os.environ, "HOME": str(room)})
-    at = (room / "at").read_text(encoding="utf8") if (room / "at").exists() else "nothing"
-    counts.want("Vim stands at the finding", at == "2:principal.nam\n", at)
-
-
 def main(words):
     is_recorded = words[:1] == ["--record"]
     programs = words[is_recorded:]
@@ -254,11 +198,12 @@ def main(words):
     counts = Counts()
     with tempfile.TemporaryDirectory(prefix="editors-") as held:
         room = Path(held).resolve()
-        parts = ((phases,), (ends,), (frames,), (positions, room), (changes, room), (neovim, room, is_recorded), (vim, room))
-        for each, *more in parts:
+        of_server = ((phases,), (ends,), (frames,), (positions, room), (changes, room), (editors.neovim, room, is_recorded), (editors.emacs, room))
+        parts = [(each, program, *more) for each, *more in of_server] + [(editors.vim, room), (editors.vscode,)]
+        for each, *given in parts:
             try:
-                each(counts, program, *more)
-            except Missing as tool:
+                each(counts, *given)
+            except editors.Missing as tool:
                 print(f"{each.__name__}: skipped, as the machine has no {tool}", flush=True)
             except (OSError, ValueError, LookupError, TypeError, subprocess.SubprocessError, NoAnswer) as error:
                 counts.want(each.__name__, False, repr(error))

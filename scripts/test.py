@@ -62,7 +62,7 @@ def of_script(*words):
 
 
 # What no compiler reads: the scripts of that part, with their words.
-TEXTS = (("gate/check_text",), ("gate/check_text", "--self-test"), ("gate/gate_samples.py",), ("mutations", "--read"), ("gate/refusal_samples.py",))
+TEXTS = (("gate/check_text",), ("gate/check_text", "--self-test"), ("gate/gate_samples.py",), ("mutations", "--read"), ("gate/refusal_samples.py",), ("gate/editor_texts.py",))
 
 
 def texts():

@@ -1,16 +1,25 @@
--- A session of Neovim with the language server, as scripts/editor_cases.py runs it: SERVER is the program, FOLDER a copy of photos/.
-local server, dir = os.getenv("SERVER"), os.getenv("FOLDER")
+-- A session of Neovim with the language server, as scripts/editor_cases.py runs it: FOLDER is a copy of photos/, and the
+-- `init.lua` is the one of docs/EDITORS.md.
+local dir = os.getenv("FOLDER")
 local function say(...) io.stdout:write(string.format(...), "\n") end
 -- How long an answer may take, in milliseconds: a busy machine takes its time, and a wait ends as soon as the answer is there.
 local MOST = 60000
 local function wait_until(holds) vim.wait(MOST, holds, 10) end
-local file = dir .. "/edit.cedar"
-vim.cmd("edit " .. file)
-local buf = vim.api.nvim_get_current_buf()
-local id = vim.lsp.start_client({ name = "cedar", cmd = { server }, root_dir = dir })
-vim.lsp.buf_attach_client(buf, id)
-local client = vim.lsp.get_client_by_id(id)
-assert(vim.wait(MOST, function() return client.initialized end, 10), "no answer to initialize")
+-- The server of a buffer, once it has started.
+local function server_of(buf)
+  for _, client in pairs(vim.lsp.buf_get_clients(buf)) do
+    if client.initialized then return client end
+  end
+end
+-- Opens a file, and answers its buffer once it has a server.
+local function open(name)
+  vim.cmd("edit " .. dir .. "/" .. name)
+  local buf = vim.api.nvim_get_current_buf()
+  assert(vim.wait(MOST, function() return server_of(buf) ~= nil end, 10), "no server for " .. name)
+  return buf
+end
+local buf = open("edit.cedar")
+local client = server_of(buf)
 say("server %s", vim.inspect(client.server_capabilities.hoverProvider))
 local function diagnostics(title)
   say("-- %s", title)
@@ -98,9 +107,8 @@ local r = ask("textDocument/documentSymbol", { textDocument = vim.lsp.util.make_
 say("-- symbols")
 for _, s in ipairs(r) do say("%s %d", s.name, s.range.start.line + 1) end
 -- the schema in another buffer
-vim.cmd("edit " .. dir .. "/photos.cedarschema")
-local sbuf = vim.api.nvim_get_current_buf()
-vim.lsp.buf_attach_client(sbuf, id)
+local sbuf = open("photos.cedarschema")
+say("-- servers for the policies and the schema: %d", #vim.tbl_values(vim.lsp.get_active_clients()))
 local lines = vim.api.nvim_buf_get_lines(sbuf, 0, -1, false)
 for n, l in ipairs(lines) do if l:find("isPublic") then vim.api.nvim_buf_set_lines(sbuf, n - 1, n, false, { (l:gsub("isPublic", "isOpen")) }) end end
 wait_until(function() return #vim.diagnostic.get(buf) > 0 end)
@@ -109,7 +117,7 @@ vim.api.nvim_buf_set_lines(sbuf, 0, 1, false, { "entity User = { name: Strng };"
 wait_until(function() return #vim.diagnostic.get(sbuf) > 0 end)
 say("-- the schema with a fault")
 for _, d in ipairs(vim.diagnostic.get(sbuf)) do say("%d:%d %s", d.lnum + 1, d.col + 1, d.message) end
-vim.lsp.stop_client(id)
+vim.lsp.stop_client(client.id)
 wait_until(function() return client.is_stopped() end)
 say("stopped: %s", tostring(client.is_stopped()))
 vim.cmd("qa!")

@@ -59,7 +59,8 @@ GOOD = {
     "HANDLES": "Handles allowed: none.\n",
     "LICENSE": f"Section 4 of these {PAPERS}.\n",
     "README.md": "Row 10 prints `row 10: ok`, as in RFC 76.\nTake crates/tmp/ out of it; 0xD4, T15 and R2D2 are no citations.\n```rust\nlet shown = 1;\n```\n"
-    "[Rows](docs/ROWS.md#the-rows), [these](docs/ROWS.md), \"The rows\", [a folder](docs), `[no](link)`.\n",
+    "[Rows](docs/ROWS.md#the-rows), [these](docs/ROWS.md), \"The rows\", [a folder](docs), `[no](link)`.\n"
+    "[The end](#the-end)\n````text\n```\na block\n```\n````\n# The end\n```text\n```\n",
     "docs/ROWS.md": f"# The rows\n<!-- made: rows -->\n{ROWS}<!-- end -->\n",
     "crates/cedar_rows/src/rows/listed.rt": 'name: "1", row: Steps(conditions::ONE, &[])\n',
     "crates/cedar_rows/src/rows/conditions.rt": '/// One.\npub const ONE: &str = r#"\n? S1 check: true\nSuccess\n"#;\n',
