@@ -6,7 +6,8 @@ PROGRAM is that of crates/cedar_samples; without a word it is built without a pr
 entities share ids across types, lack optional attributes and make parts of conditions fail. Each clause is compared on each row with an
 evaluation of the policy in this script (1, 0, or NULL where evaluation fails), and the query of each set with the decision of an
 authoriser. Then the tables have to refuse rows that no clause is right on, each supported form has to have a clause, and each other form,
-text and set has to be refused. The last line counts what agrees and what does not.
+text and set has to be refused. Large sets, long and deep conditions have to run, and odd names have to be names only. The last line counts
+what agrees and what does not. (scripts/measure/where_growth.py finds the largest sizes that run.)
 """
 import random
 import re
@@ -38,7 +39,7 @@ ENVIRONMENTS = (("User", "view"), ("User", "share"), ("Album", "sync"))
 GROUPS_OF_ACTIONS = {"view": {("Action", "read")}, "share": {("Action", "read")}, "sync": set()}
 IDS = ["alice", "bob", "Alice", "7", "07", "", "it's", 'q"q', "é"]
 TEXTS = ["", "a", "A", "a ", "ab", "aXb", "007", "7", "7.0", "1e1", "é", "e\u0301", "TRUE", "title", "%", "_", "*", "a*b", "?", "[a]", "]", "a\nb", "--", "😀",
-         "it's", 'q"q', "NULL", "; DROP TABLE x"]
+         "it's", 'q"q', "NULL", "; DROP TABLE x", "\ufffd", "\ufffe", "a\uffff"]
 NUMBERS = [0, 1, -1, 7, 10, 2**63 - 1, -2**63, 2**53 + 1, 2**53, -2**63 + 1]
 FAIL = None
 
@@ -320,9 +321,11 @@ def read_queries(output):
     for block in blocks:
         title, _, rest = block.partition("\n")
         principal, action, _ = title.split(", ")
-        # (before the table there is a line for each policy that has no clause)
-        table, _, query = re.sub(r"\A(?:-- .*\n)*", "", rest).partition(";\n")
-        tables.append(table)
+        if rest.startswith("CREATE TABLE"):
+            table, _, rest = rest.partition(";\n")
+            tables.append(table)
+        # (before the query there is a line for each policy that has no clause)
+        query = re.sub(r"\A(?:-- no (?:clause|table).*\n)*", "", rest)
         queries[principal, action.split('"')[1]] = None if query.rstrip("\n") == "-- no query" else query.rstrip(";\n")
     return tables, queries
 
@@ -411,12 +414,16 @@ HAVE = ("true", "resource.public", "!resource.public", "resource.public && resou
         "resource is Photo", "resource.owner is Album", "principal in Group::\"7\"", "principal in resource.group", "resource in resource.album",
         "action in Action::\"read\"", "action in [Action::\"view\", Action::\"sync\"]",
         "principal in [Group::\"7\", User::\"bob\"]", "resource has note", "resource has note && resource.note == \"a\"", "resource has title",
-        "resource has backup && principal == resource.backup", "resource.public == (1 == 2)", "resource[\"select\"] == \"a\"", "resource.public == true")
+        "resource has backup && principal == resource.backup", "resource.public == (1 == 2)", "resource[\"select\"] == \"a\"", "resource.public == true",
+        "resource.title == \"\\u{fffe}\"", "resource.title like \"*\\u{fffc}\"")
+NO_PATTERN = "a pattern with NUL, a backslash, U+FFFD, U+FFFE or U+FFFF has no clause"
 HAVE_NONE = (("resource.level + 1 == 7", "SQL's arithmetic does not fail as Cedar's does"), ("-resource.level == 7", "SQL's arithmetic does not fail as Cedar's does"),
              ("if resource.public then resource.draft else true", "`if` has no clause"), ("resource.labels.contains(\"a\")", "no column has this attribute"),
              ("[\"a\"].contains(resource.title)", "a set has no clause"),
              ("principal in [resource.group, Group::\"7\"]", "a set has no clause"), ("resource.title == \"a\\0\"", "a text with NUL or a backslash has no clause"),
-             ("resource.title == \"\\\\\"", "a text with NUL or a backslash has no clause"), ("resource.title like \"*\\\\\"", "a text with NUL or a backslash has no clause"),
+             ("resource.title == \"\\\\\"", "a text with NUL or a backslash has no clause"), ("resource.title like \"*\\\\\"", NO_PATTERN),
+             ("resource.title like \"\\0\"", NO_PATTERN), ("resource.title like \"\\u{fffd}\"", NO_PATTERN),
+             ("resource.title like \"a\\u{fffe}*\"", NO_PATTERN), ("resource.title like \"*\\u{ffff}\"", NO_PATTERN),
              ("principal == User::\"a\\\\' OR 1 = 1 --\"", "a text with NUL or a backslash has no clause"), ("context has x", "only attributes of the resource are in its row"),
              ("{a: resource.public}.a", "only attributes of the resource are in its row"), ("resource.owner has x", "only attributes of the resource are in its row"))
 
@@ -430,6 +437,29 @@ def check_forms(tally, clauses_of):
         clause = clauses.get(f"p{i}", ["- no output"])[0]
         reason = dict(HAVE_NONE).get(condition)
         tally.check(clause == f"- {reason}" if reason else not clause.startswith("- "), (condition, clause))
+
+
+# What a condition is for a photo without optional attributes: its value by Cedar's rules, where None is a failure.
+OF_ABSENT = (("resource.rank == 1", None), ("!(resource.rank == 1)", None), ("resource.rank < 1", None), ("resource.rank <= 1", None), ("resource.secret", None),
+             ("resource.note like \"*\"", None), ("resource.backup is User", None), ("resource.backup is Album", None), ("resource.backup == resource.album", None),
+             ("principal in resource.near", None), ("resource.near in resource.album", None), ("resource.backup in [Group::\"7\"]", None),
+             ("resource.secret && false", None), ("false && resource.secret", 0), ("true && resource.secret", None), ("resource.secret && resource.secret", None),
+             ("resource.secret || true", None), ("true || resource.secret", 1), ("false || resource.secret", None), ("resource.secret || resource.secret", None),
+             ("(false && resource.secret) || true", 1), ("(resource.secret && false) || true", None), ("!(true || resource.secret)", 0),
+             ("(resource.secret || true) == true", None), ("resource.secret == resource.secret", None), ("resource has secret", 0), ("!(resource has secret)", 1),
+             ("resource has secret && resource.secret", 0), ("!(resource has secret && resource.secret)", 1), ("(resource has secret && resource.secret) || true", 1))
+
+
+def check_absent(tally, clauses_of):
+    """NULL in each connective and comparison, alone and behind WHERE."""
+    done = clauses_of(SCHEMA, "".join(policy_text(f"p{n}", "permit", condition) for n, (condition, _) in enumerate(OF_ABSENT)))
+    tables, clauses = read_cases(done.stdout)
+    rows, ancestors = store(random.Random(1))
+    db = database(unique(tables), [{name: value for name, value in rows[0].items() if name not in OPTIONAL}], ancestors)
+    for n, (condition, want) in enumerate(OF_ABSENT):
+        clause = clauses[f"p{n}"][0]
+        (have,), = db.execute(f'select {clause} from "Photo"', {"principal": "bob"} if ":principal" in clause else {})
+        tally.check(have == want, (condition, have, clause))
 
 
 FINDS_SCHEMA = """entity User;
@@ -462,6 +492,87 @@ def check_finds(tally, queries_of):
         tally.check(have == want, (policies, have, want, query))
 
 
+# Words that SQL reads otherwise where they stand without quotes, or that SQLite has columns or functions for.
+ODD_NAMES = ("true", "false", "null", "rowid", "oid", "_rowid_", "char", "instr", "values", "when", "current_time", "1", "0", " ", "", "photo", "entity ancestors")
+
+
+def check_names(tally, queries_of):
+    """Attributes with odd names: a clause that does not name one does not read it, and one that does reads it alone."""
+    attributes = ", ".join(f"{cedar_text(name)}: Bool" for name in ODD_NAMES)
+    schema = f"entity User;\nentity Photo {{ public: Bool, {attributes} }};\naction view appliesTo {{ principal: User, resource: Photo }};\n"
+    for name in ("public", *ODD_NAMES):
+        tables, queries = read_queries(queries_of(schema, f"permit(principal, action, resource) when {{ true && resource[{cedar_text(name)}] && !false }};").stdout)
+        db = sqlite3.connect(":memory:")
+        for table in unique(tables):
+            db.execute(table)
+        columns = [column for _, column, *_ in db.execute('pragma table_info("Photo")')]
+        for eid in ("own", "others"):
+            db.execute(f"insert into \"Photo\" values ({', '.join('?' * len(columns))})",
+                       [eid if column == "eid" else int((column == name) == (eid == "own")) for column in columns])
+        have = {eid for eid, in db.execute(queries["User", "view"])}
+        tally.check(have == {"own"}, (name, have, queries))
+
+
+SIZED_SCHEMA = """entity Group in [Group];
+entity User in [Group];
+entity Photo {{ level: Long{optional} }};
+action view appliesTo {{ principal: User, resource: Photo }};
+"""
+NESTED = 40
+
+
+def nested_test(level, n=0):
+    return n == NESTED or (level < 300 - n and (level == n or nested_test(level, n + 1)))
+
+
+def negated_test(level, n=0):
+    return n == NESTED or not (level != 2 * n and negated_test(level, n + 1))
+
+
+def permit(condition):
+    return f"permit(principal, action, resource) when {{ {condition} }};\n"
+
+
+GUARDS = " && ".join(f"(resource has o{n} && resource.o{n} == 1)" for n in range(200))
+# What runs, as EMBEDDING says: a size, the policies, and which photos of the levels 0 to 2,999 they allow to a user in group 2999.
+SIZES = (
+    ("1,000 permits", "".join(policy_text(f"p{n}", "permit", f"resource.level == {2 * n}") for n in range(1000)), lambda n: n < 2000 and n % 2 == 0),
+    ("1,000 forbids", permit("true") + "".join(policy_text(f"p{n}", "forbid", f"resource.level == {2 * n}") for n in range(1000)), lambda n: n >= 2000 or n % 2 == 1),
+    ("200 parts of &&", permit(" && ".join(f"resource.level != {n}" for n in range(200))), lambda n: n >= 200),
+    ("200 parts of ||", permit(" || ".join(f"resource.level == {n}" for n in range(200))), lambda n: n < 200),
+    ("200 guards", permit(GUARDS), lambda n: n % 3 == 0),
+    ("200 guards in a forbid", permit("true") + "forbid" + permit(GUARDS)[6:], lambda n: n % 3 != 0),
+    ("3,000 entities", permit("principal in [" + ", ".join(f'Group::"{n}"' for n in range(3000)) + "] && resource.level < 7"), lambda n: n < 7),
+    ("3,000 other entities", permit("principal in [" + ", ".join(f'Group::"{n}"' for n in range(3000, 6000)) + "]"), lambda n: False),
+    (f"a && (b || (.., {NESTED} times", permit("".join(f"resource.level < {300 - n} && (resource.level == {n} || (" for n in range(NESTED)) + "true" + "))" * NESTED), nested_test),
+    (f"!(a && !(.., {NESTED} times", permit("".join(f"!(resource.level != {2 * n} && " for n in range(NESTED)) + "true" + ")" * NESTED), negated_test),
+)
+
+
+def check_sizes(tally, queries_of):
+    """Large sets, long and deep conditions and lists run, and choose the right rows."""
+    for what, policies, is_allowed in SIZES:
+        optional = [f"o{n}" for n in range(200)] if " has o" in policies else []
+        done = queries_of(SIZED_SCHEMA.format(optional="".join(f", {name}?: Long" for name in optional)), policies)
+        tables, queries = read_queries(done.stdout)
+        query = queries.get(("User", "view"))
+        if query is None:
+            tally.check(False, (what, done.stdout[:300], done.stderr[:300]))
+            continue
+        db = sqlite3.connect(":memory:")
+        for table in unique(tables):
+            db.execute(table)
+        names = ", ".join(f'"{name}"' for name in ("eid", "level", *optional))
+        marks = ", ".join("?" * (2 + len(optional)))
+        # (of three levels one has all optional attributes, one lacks the last, and one has another value in the first)
+        db.executemany(f'insert into "Photo" ({names}) values ({marks})', [
+            (str(n), n, *[2 if n % 3 == 2 and name == "o0" else None if n % 3 == 1 and name == "o199" else 1 for name in optional]) for n in range(3000)])
+        db.execute("insert into \"entity ancestors\" values ('User', 'alice', 'Group', '2999')")
+        have = {int(eid) for eid, in db.execute(query, {"principal": "alice"} if ":principal" in query else {})}
+        want = {n for n in range(3000) if is_allowed(n)}
+        tally.check(have == want, (what, len(have), len(want), query[:300]))
+
+
 def check_refused(tally, queries_of):
     """No query: of a set that validation does not accept, with two policies of one id, or with a policy that has no clause."""
     one = policy_text("a", "permit", "resource.public")
@@ -472,6 +583,12 @@ def check_refused(tally, queries_of):
         done = queries_of(SCHEMA, policies)
         _, queries = read_queries(done.stdout)
         tally.check(not any(queries.values()) and says in done.stdout.decode() and (says or done.returncode), (policies, done.stdout, done.stderr))
+    hiding = "entity User; namespace N { entity User; }\naction view appliesTo { principal: User, resource: User };\n"
+    done = queries_of(hiding, "permit(principal, action, resource);")
+    tally.check(done.returncode == 1 and b"`N::User` hides" in done.stderr, done)
+    # (a table that several environments need stands once)
+    tables, queries = read_queries(queries_of(SCHEMA, one).stdout)
+    tally.check(len(queries) == 3 and all(queries.values()) and len(tables) == 2, (tables, queries))
 
 
 def check_tables(tally, clauses_of):
@@ -497,9 +614,17 @@ def check_tables(tally, clauses_of):
         tally.check(False, "a column that the table lacks")
     except sqlite3.OperationalError:
         tally.check(True, "a column that the table lacks")
-    clashing = "entity User;\nentity Photo { eid: Long };\naction view appliesTo { principal: User, resource: Photo };\n"
-    tables, _ = read_cases(clauses_of(clashing, "").stdout)
-    tally.check(tables[1].startswith("- "), tables)
+    for declared, resource, says in (
+            ("entity Photo { eid: Long };", "Photo", '- attribute "eid" would have the same column as another'),
+            ("entity Photo { a: Long, A: Long };", "Photo", '- attribute "a" would have the same column as another'),
+            ("entity sqlite_photo;", "sqlite_photo", "- SQLite keeps names that begin with `sqlite_`"),
+            ("entity SQLite_photo;", "SQLite_photo", "- SQLite keeps names that begin with `sqlite_`"),
+            ("entity Photo, photo;", "photo", "- entity type `Photo` would have the same table"),
+            ("namespace N { entity Photo; }\nnamespace n { entity photo; }", "N::Photo", "- entity type `n::photo` would have the same table"),
+            ("entity sqlitephoto;", "sqlitephoto", 'CREATE TABLE "sqlitephoto" ("eid" TEXT NOT NULL PRIMARY KEY) STRICT'),
+            ("namespace N { entity sqlite_photo; }", "N::sqlite_photo", 'CREATE TABLE "N::sqlite_photo" ("eid" TEXT NOT NULL PRIMARY KEY) STRICT')):
+        tables, _ = read_cases(clauses_of(f"entity User;\n{declared}\naction view appliesTo {{ principal: User, resource: {resource} }};\n", "").stdout)
+        tally.check(tables[1] == says, (says, tables))
 
 
 def main(words):
@@ -507,9 +632,12 @@ def main(words):
     clauses, queries = partial(run, program, "clauses"), partial(run, program, "queries")
     tally = Tally()
     check_forms(tally, clauses)
+    check_absent(tally, clauses)
     check_finds(tally, queries)
     check_refused(tally, queries)
     check_tables(tally, clauses)
+    check_names(tally, queries)
+    check_sizes(tally, queries)
     check_clauses(tally, clauses, random.Random(1))
     check_sets(tally, queries, random.Random(2))
     print(f"{tally.passed} passed, {tally.failed} failed")

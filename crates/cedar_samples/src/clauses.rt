@@ -11,7 +11,7 @@ use std::{fs, io};
 /// Prints the tables of the schema of a file, and the clauses of the policies of another file.
 pub fn run(rt: &HostRuntime, files: Files<'_>) -> Result<(), HostError> {
     let alloc = rt.alloc();
-    let schema = schema(alloc, &fs::read_to_string(rt, files.schema)?)?;
+    let schema = whole_schema(alloc, &fs::read_to_string(rt, files.schema)?)?;
     let policies = written_policies(alloc, &fs::read_to_string(rt, files.policies)?)?;
     let extensions = ExtensionSchemas::default(alloc);
     let checker = Typechecker::new(&schema, &extensions, ValidationMode::Strict);

@@ -68,7 +68,7 @@ pub fn run(rt: &HostRuntime) -> Result<(), HostError> {
         duration: Box::new(alloc, Constructor::Duration.check(alloc))?,
     };
     let extensions = ExtensionSchemas::new(functions(alloc, checks)?, overloaded_types(alloc)?)?;
-    let schema = schema(
+    let schema = whole_schema(
         alloc,
         &fs::read_to_string(rt, "gate/documents.cedarschema")?,
     )?;

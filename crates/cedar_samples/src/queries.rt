@@ -8,11 +8,11 @@ use cedar_where::{AncestorTable, Refusal, SqlExpr, Table, joined, where_clause};
 use std::fs;
 
 /// Prints, for each environment of the schema of a file, the query of the resources that the policies of another file allow,
-/// and before it the tables that it needs. A set with two policies of one id, or with one that validation does not accept, has
+/// and each table before the first query that needs it. A set with two policies of one id, or with one that validation does not accept, has
 /// no query; nor has an environment in which some policy has no clause.
 pub fn run(rt: &HostRuntime, files: Files<'_>) -> Result<(), HostError> {
     let alloc = rt.alloc();
-    let schema = schema(alloc, &fs::read_to_string(rt, files.schema)?)?;
+    let schema = whole_schema(alloc, &fs::read_to_string(rt, files.schema)?)?;
     let extensions = ExtensionSchemas::default(alloc);
     let validator = Validator::new(schema, &extensions);
     let policies = written_policies(alloc, &fs::read_to_string(rt, files.policies)?)?;
@@ -46,13 +46,14 @@ fn are_accepted<C: ArgumentCheck>(
     Ok(all)
 }
 
-/// The table and the query of each environment.
+/// The query of each environment, behind the table of its resources where no environment before it has this table.
 fn print_queries<C: ArgumentCheck>(
     rt: &HostRuntime,
     validator: &Validator<'_, C>,
     policies: &[WrittenPolicy],
 ) -> Result<(), HostError> {
     let schema = validator.schema();
+    let mut printed = Vec::new(rt.alloc());
     let checker = Typechecker::new(schema, validator.extensions(), ValidationMode::Strict);
     for env in schema.unlinked_request_envs(ValidationMode::Strict) {
         if let RequestEnv::DeclaredAction {
@@ -63,8 +64,34 @@ fn print_queries<C: ArgumentCheck>(
         } = &env
         {
             println!(rt; "\n-- {principal}, {action}, {resource}")?;
+            if !is_among(&printed, resource) {
+                print_table(rt, schema, resource)?;
+                printed.push(EntityType::clone(resource)?)?;
+            }
             print_query(rt, schema, &checker, policies, &env, resource)?;
         }
+    }
+    Ok(())
+}
+
+fn is_among(types: &[EntityType], one: &EntityType) -> bool {
+    for entity_type in types {
+        if entity_type == one {
+            return true;
+        }
+    }
+    false
+}
+
+/// The table of a type of resources, or the reason why there is none.
+fn print_table(
+    rt: &HostRuntime,
+    schema: &ValidatorSchema,
+    resource: &EntityType,
+) -> Result<(), HostError> {
+    match Table::of_type(rt.alloc(), schema, resource)? {
+        Ok(table) => println!(rt; "{table};")?,
+        Err(fault) => println!(rt; "-- no table: {fault}")?,
     }
     Ok(())
 }
@@ -77,7 +104,7 @@ struct Clauses {
     has_refusal: bool,
 }
 
-/// The table of an environment's resources, and the query of the resources that the policies allow.
+/// The query of an environment's resources that the policies allow.
 fn print_query<C: ArgumentCheck>(
     rt: &HostRuntime,
     schema: &ValidatorSchema,
@@ -87,19 +114,15 @@ fn print_query<C: ArgumentCheck>(
     resource: &EntityType,
 ) -> Result<(), HostError> {
     let alloc = rt.alloc();
-    let table = match Table::of_type(alloc, schema, resource)? {
-        Ok(table) => table,
-        Err(fault) => {
-            println!(rt; "-- no table: {fault}")?;
-            return Ok(());
-        }
+    let Ok(table) = Table::of_type(alloc, schema, resource)? else {
+        println!(rt; "-- no query")?;
+        return Ok(());
     };
     let Clauses {
         permits,
         forbids,
         has_refusal,
     } = clauses_in(rt, schema, checker, policies, env)?;
-    println!(rt; "{table};")?;
     if has_refusal {
         println!(rt; "-- no query")?;
         return Ok(());

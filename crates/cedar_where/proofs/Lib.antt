@@ -5,3 +5,5 @@ pub mod ConditionsAgree
 pub mod Answered
 pub mod SetsAgree
 pub mod Literals
+pub mod Held
+pub mod NullExamples

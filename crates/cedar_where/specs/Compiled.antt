@@ -1,5 +1,5 @@
 -- Expressions of SQL for parts of a condition, and the parts that have none.
-use Rattle.std.specs.Prelude.{Bool, true, false, not, ◌&&◌, List, [], ◌∷◌, Option, Some, None, option_map, nat_eq, if◌then◌else◌}
+use Rattle.std.specs.Prelude.{Bool, true, false, not, ◌&&◌, ◌||◌, ℕ, List, [], ◌∷◌, Option, Some, None, option_map, nat_eq, if◌then◌else◌}
 use Rattle.std.specs.List.{list_any, list_all}
 use Rattle.cedar_types.specs.declared.base.expressions.operators.BinaryOp.{BinaryOp}
 use Rattle.cedar_types.specs.declared.base.expressions.operators.UnaryOp.{UnaryOp}
@@ -68,8 +68,13 @@ same_kind k l = false
 abbrev pub is_plain : Text → Bool
 is_plain t = not (list_any (λ b. nat_eq b 0) t) && not (list_any (λ b. nat_eq b 92) t)
 
+-- the replacement character, and the two that SQLite's GLOB reads as it
+abbrev pub is_replaced : ℕ → Bool
+is_replaced c = nat_eq c 65533 || (nat_eq c 65534 || nat_eq c 65535)
+
+-- a character of a pattern is neither NUL nor a backslash, and GLOB reads it as itself
 abbrev pub is_plain_elem : PatternElem → Bool
-is_plain_elem (PatternElem.Char c) = not (nat_eq c 0) && not (nat_eq c 92)
+is_plain_elem (PatternElem.Char c) = not (nat_eq c 0) && (not (nat_eq c 92) && not (is_replaced c))
 is_plain_elem PatternElem.Wildcard = true
 
 abbrev pub is_plain_pattern : List PatternElem → Bool

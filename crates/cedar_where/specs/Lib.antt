@@ -5,3 +5,4 @@ pub mod Compiled
 pub mod Views
 pub mod Sets
 pub mod Tables
+pub mod NullExamples

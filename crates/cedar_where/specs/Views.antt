@@ -1,5 +1,5 @@
 -- Plain data for which the values of the program stand.
-use Rattle.std.specs.Prelude.{Option, Some, None, Result, Ok, Err, map}
+use Rattle.std.specs.Prelude.{List, [], ◌∷◌, Option, Some, None, Result, Ok, Err, map}
 use Rattle.cedar_types.specs.Names.{text_of, type_of, uid_of}
 use Rattle.cedar_types.specs.Schemas.Contents.{schema_of}
 use Rattle.cedar_types.specs.Types.{ty_of}
@@ -42,6 +42,11 @@ sql_step (layer.IsInAny p a us) = sql_is_in_any (type_of p) a.value (map uid_of 
 -- an expression of SQL
 abbrev pub sql_of : SqlExpr → Sql
 sql_of = fold-SqlExpr Sql sql_step
+
+-- the expression that is held, if there is one
+abbrev pub sql_held : Option SqlExpr → List Sql
+sql_held None = []
+sql_held (Some e) = sql_of e ∷ []
 
 abbrev pub kind_of : Kind → plain.Kind
 kind_of kind.Bool = KBool

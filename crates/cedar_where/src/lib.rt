@@ -5,6 +5,7 @@
 //! of a table, and that SQLite evaluates the text as the tree says.
 #![tactic(auto)]
 
+mod chains;
 mod clauses;
 mod columns;
 mod comparisons;
@@ -14,10 +15,12 @@ mod leaves;
 mod membership;
 mod operators;
 mod plain;
+mod quotes;
 mod refusals;
 mod scopes;
 mod sets;
 mod sql;
+mod table_texts;
 mod tables;
 mod terms;
 mod texts;
@@ -27,5 +30,6 @@ pub use clauses::where_clause;
 pub use refusals::{Reason, Refusal};
 pub use sets::joined;
 pub use sql::SqlExpr;
+pub use table_texts::AncestorTable;
 pub use tables::{Column, ColumnType, Table, TableFault};
-pub use texts::{AncestorTable, SqlQuery, SqlText};
+pub use texts::{SqlQuery, SqlText};

@@ -37,9 +37,12 @@ pub enum Reason {
     NotOfResource,
     /// No column of the table has the attribute.
     NoColumn,
-    /// A text, an id, a name or a pattern with NUL, which no driver takes, or with a backslash,
-    /// which begins an escape in some dialects.
+    /// A text, an id or a name with NUL, which no driver takes, or with a backslash, which begins an
+    /// escape in some dialects.
     Text,
+    /// A pattern with NUL or a backslash, or with U+FFFD, U+FFFE or U+FFFF, which SQLite's GLOB takes
+    /// for each other.
+    Pattern,
     /// `!`, `&&` and `||` need truth values.
     NotBoolean,
     /// `<` and `<=` need numbers here.
@@ -72,6 +75,10 @@ impl fmt::Display for Reason {
             Reason::NotOfResource => write!(f, "only attributes of the resource are in its row"),
             Reason::NoColumn => write!(f, "no column has this attribute"),
             Reason::Text => write!(f, "a text with NUL or a backslash has no clause"),
+            Reason::Pattern => write!(
+                f,
+                "a pattern with NUL, a backslash, U+FFFD, U+FFFE or U+FFFF has no clause"
+            ),
             Reason::NotBoolean => write!(f, "this is no truth value"),
             Reason::NotNumber => write!(f, "only numbers are compared by order"),
             Reason::NotText => write!(f, "`like` needs a text"),

@@ -3,7 +3,7 @@ use cedar_types::base::{EntityType, EntityUID, PatternElem};
 use std::rc::RcStr;
 
 /// An expression of SQL over a row of the table of the resources, with a parameter for the principal's id and a table of
-/// ancestors. `Display` writes its text. A recursion as deep as the tree drops it.
+/// ancestors. `Table::text_of` writes its text, with 1 and 0 for TRUE and FALSE. A recursion as deep as the tree drops it.
 #[derive(Debug)]
 pub enum SqlExpr {
     /// `NULL`.

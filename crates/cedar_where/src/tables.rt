@@ -18,6 +18,9 @@ use std::rc::RcStr;
 /// The column that holds an entity's own id.
 pub(crate) const ID_COLUMN: &str = "eid";
 
+/// The beginning of the names of SQLite's own tables.
+const RESERVED: &str = "sqlite_";
+
 /// The kind of the values that a column holds.
 #[derive(Clone, Copy, PartialEq, Eq, Debug)]
 pub enum ColumnType {
@@ -58,6 +61,10 @@ pub enum TableFault {
     /// The name of an attribute equals another's, or `eid`, in all but upper and lower case, which
     /// SQL does not tell apart.
     SameName(RcStr),
+    /// The name of the entity type begins with `sqlite_`, in any case: SQLite keeps such names.
+    ReservedName,
+    /// The name of the entity type equals that of this other in all but upper and lower case.
+    SameTable(EntityType),
 }
 
 impl fmt::Display for TableFault {
@@ -69,6 +76,10 @@ impl fmt::Display for TableFault {
                     f,
                     "attribute {name:?} would have the same column as another"
                 )
+            }
+            TableFault::ReservedName => write!(f, "SQLite keeps names that begin with `sqlite_`"),
+            TableFault::SameTable(other) => {
+                write!(f, "entity type `{other}` would have the same table")
             }
         }
     }
@@ -92,6 +103,10 @@ impl Table {
             ≡ left_out (attributes_in (schema_of schema.now)
             (TEntity (type_of entity_type.now ∷ []))))) }
     {
+        let name = entity_type.to_string(alloc)?;
+        if let Some(fault) = name_fault(alloc, schema, entity_type, &name)? {
+            return Ok(Err(fault));
+        }
         let ty = CedarType::entity_reference(alloc, entity_type, schema)?;
         let attributes = ty.attributes(alloc, schema)?;
         let mut columns = Vec::new(alloc);
@@ -114,12 +129,38 @@ impl Table {
                 is_required: attribute.is_required,
             })?;
         }
-        let name = entity_type.to_string(alloc)?;
         Ok(Ok(Table {
             name,
             columns,
             left_out,
         }))
+    }
+}
+
+/// The reason why no table can have the name of an entity type, if there is one.
+fn name_fault(
+    alloc: Global,
+    schema: &ValidatorSchema,
+    entity_type: &EntityType,
+    name: &str,
+) -> Result<Option<TableFault>, AllocError> {
+    if is_reserved(name) {
+        return Ok(Some(TableFault::ReservedName));
+    }
+    let declared = schema.entity_type_names(alloc)?;
+    for other in &declared {
+        let text = other.to_string(alloc)?;
+        if *other != entity_type && text.as_str().eq_ignore_ascii_case(name) {
+            return Ok(Some(TableFault::SameTable(EntityType::clone(other)?)));
+        }
+    }
+    Ok(None)
+}
+
+fn is_reserved(name: &str) -> bool {
+    match name.get(0..RESERVED.len()) {
+        Some(start) => start.eq_ignore_ascii_case(RESERVED),
+        None => false,
     }
 }
 

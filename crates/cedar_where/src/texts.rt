@@ -1,12 +1,15 @@
-// Texts of expressions and of tables, for SQLite. No contract says that a text has the meaning of its tree: that is only
-// tested.
+// Texts of expressions, for SQLite. No contract says that a text has the meaning of its tree: that is only tested.
+//
+// A truth value is 1 or 0, because SQLite takes the words TRUE and FALSE for columns of these names.
+use crate::chains::{Chain, Kept, Place, Turn};
+use crate::quotes::{
+    write_ancestor, write_ancestor_among, write_ancestor_query, write_column, write_ids_of_type,
+    write_pattern, write_quoted,
+};
 use crate::sql::SqlExpr;
-use crate::tables::{Column, ColumnType, ID_COLUMN, Table};
-use cedar_types::base::{EntityType, EntityUID, PatternElem};
+use crate::tables::{ID_COLUMN, Table};
+use cedar_types::base::EntityType;
 use std::fmt;
-
-/// The name of the table of ancestors. It has a blank, because no entity type does.
-const ANCESTORS: &str = "entity ancestors";
 
 /// A text that SQL reads back.
 #[derive(Clone, Copy)]
@@ -15,64 +18,119 @@ pub struct SqlText<'a> {
     expr: &'a SqlExpr,
 }
 
+/// The query of the ids of the rows that a clause chooses.
+#[derive(Clone, Copy)]
+pub struct SqlQuery<'a> {
+    table: &'a Table,
+    clause: &'a SqlExpr,
+}
+
 impl Table {
-    /// An expression over this table, as a text.
+    /// An expression over this table, as a text. It has parentheses, if it is no single name, number or text.
     pub fn text_of<'a>(&'a self, expr: &'a SqlExpr) -> SqlText<'a> {
         SqlText { table: self, expr }
+    }
+
+    /// The query of the ids of the rows that a clause over this table chooses.
+    pub fn query<'a>(&'a self, clause: &'a SqlExpr) -> SqlQuery<'a> {
+        SqlQuery {
+            table: self,
+            clause,
+        }
     }
 }
 
 impl fmt::Display for SqlText<'_> {
     fn fmt<W: fmt::Write>(&self, f: &mut fmt::Formatter<W>) -> fmt::Result {
-        write_expr(f, self.table.name.as_str(), self.expr)
+        let mut whole = Chain::new(Place::Operand, Kept::Value);
+        write_expr(f, self.table.name.as_str(), &mut whole, self.expr)
     }
 }
 
-/// Writes an expression. Columns are qualified, because SQLite takes a quoted name that the table lacks for a text.
-fn write_expr<W: fmt::Write>(f: &mut fmt::Formatter<W>, table: &str, e: &SqlExpr) -> fmt::Result {
+impl fmt::Display for SqlQuery<'_> {
+    fn fmt<W: fmt::Write>(&self, f: &mut fmt::Formatter<W>) -> fmt::Result {
+        let table = self.table.name.as_str();
+        write!(f, "SELECT ")?;
+        write_column(f, table, ID_COLUMN)?;
+        write!(f, " FROM ")?;
+        write_quoted(f, '"', table)?;
+        write!(f, " WHERE ")?;
+        let mut whole = Chain::new(Place::Alone, Kept::Truth);
+        write_expr(f, table, &mut whole, self.clause)
+    }
+}
+
+/// Writes an expression as a part of a chain.
+fn write_expr<W: fmt::Write>(
+    f: &mut fmt::Formatter<W>,
+    table: &str,
+    chain: &mut Chain,
+    e: &SqlExpr,
+) -> fmt::Result {
+    if chain.goes_on(e) {
+        return match e {
+            SqlExpr::And(a, b)
+            | SqlExpr::Or(a, b)
+            | SqlExpr::Case {
+                test: a,
+                then: b,
+                ..
+            } => {
+                write_expr(f, table, chain, a)?;
+                write_expr(f, table, chain, b)
+            }
+            SqlExpr::IsTrue(a) => write_expr(f, table, chain, a),
+            _ => Ok(()),
+        };
+    }
+    if !chain.takes(e) {
+        return Ok(());
+    }
+    chain.begin_part(f, e)?;
+    let mut parts = chain.within(e);
     match e {
-        SqlExpr::Null => write!(f, "NULL"),
-        SqlExpr::Truth(truth) => write!(f, "{}", if *truth { "TRUE" } else { "FALSE" }),
-        SqlExpr::Number(n) => write!(f, "({n})"),
-        SqlExpr::Text(text) => write_quoted(f, '\'', text),
-        SqlExpr::Column(name) => write_column(f, table, name),
-        SqlExpr::OwnId => write_column(f, table, ID_COLUMN),
-        SqlExpr::Principal => write!(f, ":principal"),
-        SqlExpr::Not(a) | SqlExpr::IsNotNull(a) | SqlExpr::IsTrue(a) => {
-            write!(f, "({}", word_before(e))?;
-            write_expr(f, table, a)?;
-            write!(f, "{})", word_behind(e))
-        }
         SqlExpr::And(a, b)
         | SqlExpr::Or(a, b)
-        | SqlExpr::Equal(a, b)
-        | SqlExpr::Less(a, b)
-        | SqlExpr::LessOrEqual(a, b) => {
-            write!(f, "(")?;
-            write_expr(f, table, a)?;
+        | SqlExpr::Case {
+            test: a,
+            then: b,
+            ..
+        } if parts.is_chain() => {
+            parts.turn = Turn::Deep;
+            write_expr(f, table, &mut parts, a)?;
+            write_expr(f, table, &mut parts, b)?;
+            parts.turn = Turn::Others;
+            write_expr(f, table, &mut parts, a)?;
+            write_expr(f, table, &mut parts, b)?;
+            parts.end(f)?;
+        }
+        SqlExpr::Not(a) | SqlExpr::IsNotNull(a) | SqlExpr::IsTrue(a) => {
+            write!(f, "{}", word_before(e))?;
+            write_expr(f, table, &mut parts, a)?;
+            write!(f, "{}", word_behind(e))?;
+        }
+        SqlExpr::Equal(a, b) | SqlExpr::Less(a, b) | SqlExpr::LessOrEqual(a, b) => {
+            write_expr(f, table, &mut parts, a)?;
             write!(f, " {} ", word_between(e))?;
-            write_expr(f, table, b)?;
-            write!(f, ")")
+            write_expr(f, table, &mut parts, b)?;
         }
         SqlExpr::Case {
             test,
             then,
             otherwise,
         } => {
-            write!(f, "(CASE ")?;
-            write_expr(f, table, test)?;
-            write!(f, " WHEN TRUE THEN ")?;
-            write_expr(f, table, then)?;
-            write!(f, " WHEN FALSE THEN ")?;
-            write_expr(f, table, otherwise)?;
-            write!(f, " END)")
+            let mut branch = chain.branch();
+            write!(f, "CASE ")?;
+            write_expr(f, table, &mut parts, test)?;
+            write!(f, " WHEN 1 THEN ")?;
+            write_expr(f, table, &mut branch, then)?;
+            write!(f, " WHEN 0 THEN ")?;
+            write_expr(f, table, &mut branch, otherwise)?;
+            write!(f, " END")?;
         }
         SqlExpr::Matches(a, pattern) => {
-            write!(f, "(")?;
-            write_expr(f, table, a)?;
-            write!(f, " GLOB ")?;
+            write_expr(f, table, &mut parts, a)?;
             write_pattern(f, pattern)?;
-            write!(f, ")")
         }
         SqlExpr::IsIn {
             entity_type,
@@ -80,46 +138,47 @@ fn write_expr<W: fmt::Write>(f: &mut fmt::Formatter<W>, table: &str, e: &SqlExpr
             ancestor_type,
             ancestor_eid,
         } => {
-            write!(f, "(CASE WHEN ")?;
-            write_expr(f, table, eid)?;
-            write!(f, " IS NOT NULL AND ")?;
-            write_expr(f, table, ancestor_eid)?;
-            write!(f, " IS NOT NULL THEN ")?;
-            if entity_type == ancestor_type {
-                write_expr(f, table, eid)?;
-                write!(f, " = ")?;
-                write_expr(f, table, ancestor_eid)?;
-                write!(f, " OR ")?;
-            }
+            write!(f, "CASE ")?;
+            write_expr(f, table, &mut parts, eid)?;
+            write!(f, " = ")?;
+            write_expr(f, table, &mut parts, ancestor_eid)?;
+            write!(f, "{}", word_before_query(entity_type, ancestor_type))?;
             write_ancestor_query(f, entity_type)?;
-            write_expr(f, table, eid)?;
+            write_expr(f, table, &mut parts, eid)?;
             write_ancestor(f, ancestor_type)?;
-            write_expr(f, table, ancestor_eid)?;
-            write!(f, ") END)")
+            write_expr(f, table, &mut parts, ancestor_eid)?;
+            write!(f, ") END")?;
         }
         SqlExpr::IsInAny {
             entity_type,
             eid,
             entities,
         } => {
-            write!(f, "(CASE WHEN ")?;
-            write_expr(f, table, eid)?;
+            write!(f, "CASE WHEN ")?;
+            write_expr(f, table, &mut parts, eid)?;
             write!(f, " IS NOT NULL THEN ")?;
-            write_expr(f, table, eid)?;
-            write!(f, " IN (")?;
+            write_expr(f, table, &mut parts, eid)?;
             write_ids_of_type(f, entity_type, entities)?;
-            write!(f, ") OR ")?;
             write_ancestor_query(f, entity_type)?;
-            write_expr(f, table, eid)?;
-            write!(f, " AND (FALSE")?;
-            for entity in entities {
-                write!(f, " OR (TRUE")?;
-                write_ancestor(f, &entity.entity_type)?;
-                write_quoted(f, '\'', &entity.eid)?;
-                write!(f, ")")?;
-            }
-            write!(f, ")) END)")
+            write_expr(f, table, &mut parts, eid)?;
+            write_ancestor_among(f, entities)?;
         }
+        _ => write_leaf(f, table, e)?,
+    }
+    chain.end_part(f, e)
+}
+
+/// Writes an expression without operands.
+fn write_leaf<W: fmt::Write>(f: &mut fmt::Formatter<W>, table: &str, e: &SqlExpr) -> fmt::Result {
+    match e {
+        SqlExpr::Truth(true) => write!(f, "1"),
+        SqlExpr::Truth(false) => write!(f, "0"),
+        SqlExpr::Number(n) => write!(f, "{n}"),
+        SqlExpr::Text(text) => write_quoted(f, '\'', text),
+        SqlExpr::Column(name) => write_column(f, table, name),
+        SqlExpr::OwnId => write_column(f, table, ID_COLUMN),
+        SqlExpr::Principal => write!(f, ":principal"),
+        _ => write!(f, "NULL"),
     }
 }
 
@@ -133,183 +192,25 @@ fn word_before(e: &SqlExpr) -> &'static str {
 fn word_behind(e: &SqlExpr) -> &'static str {
     match e {
         SqlExpr::IsNotNull(_) => " IS NOT NULL",
-        SqlExpr::IsTrue(_) => " IS TRUE",
+        SqlExpr::IsTrue(_) => " IS 1",
         _ => "",
+    }
+}
+
+/// The words between the comparison of two ids and the query for an ancestor, which is NULL if the comparison is. Equal ids are
+/// those of one entity only if their types are equal.
+fn word_before_query(entity_type: &EntityType, ancestor_type: &EntityType) -> &'static str {
+    if entity_type == ancestor_type {
+        " WHEN 1 THEN 1 WHEN 0 THEN "
+    } else {
+        " IS NOT NULL WHEN 1 THEN "
     }
 }
 
 fn word_between(e: &SqlExpr) -> &'static str {
     match e {
-        SqlExpr::And(_, _) => "AND",
-        SqlExpr::Or(_, _) => "OR",
         SqlExpr::Less(_, _) => "<",
         SqlExpr::LessOrEqual(_, _) => "<=",
         _ => "=",
-    }
-}
-
-/// The ids of the entities of a type.
-fn write_ids_of_type<W: fmt::Write>(
-    f: &mut fmt::Formatter<W>,
-    entity_type: &EntityType,
-    entities: &[EntityUID],
-) -> fmt::Result {
-    let mut mark = "";
-    for entity in entities {
-        if entity.entity_type == *entity_type {
-            write!(f, "{mark}")?;
-            write_quoted(f, '\'', &entity.eid)?;
-            mark = ", ";
-        }
-    }
-    Ok(())
-}
-
-/// Writes the beginning of a query for an ancestor of an entity of this type, up to the entity's id.
-fn write_ancestor_query<W: fmt::Write>(
-    f: &mut fmt::Formatter<W>,
-    entity_type: &EntityType,
-) -> fmt::Result {
-    write!(f, "EXISTS (SELECT 1 FROM \"{ANCESTORS}\" WHERE ")?;
-    write!(f, "\"{ANCESTORS}\".\"type\" = '{entity_type}' AND ")?;
-    write!(f, "\"{ANCESTORS}\".\"eid\" = ")
-}
-
-/// Writes the condition that the ancestor is of this type and has an id, up to the id.
-fn write_ancestor<W: fmt::Write>(
-    f: &mut fmt::Formatter<W>,
-    ancestor_type: &EntityType,
-) -> fmt::Result {
-    write!(
-        f,
-        " AND \"{ANCESTORS}\".\"ancestor_type\" = '{ancestor_type}' AND "
-    )?;
-    write!(f, "\"{ANCESTORS}\".\"ancestor_eid\" = ")
-}
-
-fn write_column<W: fmt::Write>(
-    f: &mut fmt::Formatter<W>,
-    table: &str,
-    column: &str,
-) -> fmt::Result {
-    write_quoted(f, '"', table)?;
-    write!(f, ".")?;
-    write_quoted(f, '"', column)
-}
-
-/// Writes a text in these marks. A mark within it is doubled.
-fn write_quoted<W: fmt::Write>(f: &mut fmt::Formatter<W>, mark: char, text: &str) -> fmt::Result {
-    write!(f, "{mark}")?;
-    for c in text.chars() {
-        if c == mark {
-            write!(f, "{mark}")?;
-        }
-        write!(f, "{c}")?;
-    }
-    write!(f, "{mark}")
-}
-
-/// Writes a pattern of GLOB, in which `*`, `?` and `[` stand for themselves within brackets.
-fn write_pattern<W: fmt::Write>(f: &mut fmt::Formatter<W>, pattern: &[PatternElem]) -> fmt::Result {
-    write!(f, "'")?;
-    for elem in pattern {
-        match elem {
-            PatternElem::Wildcard => write!(f, "*")?,
-            PatternElem::Char('\'') => write!(f, "''")?,
-            PatternElem::Char(c) if *c == '*' || *c == '?' || *c == '[' => write!(f, "[{c}]")?,
-            PatternElem::Char(c) => write!(f, "{c}")?,
-        }
-    }
-    write!(f, "'")
-}
-
-impl fmt::Display for Table {
-    /// Writes `CREATE TABLE`. A clause chooses the right rows only of this table.
-    fn fmt<W: fmt::Write>(&self, f: &mut fmt::Formatter<W>) -> fmt::Result {
-        write!(f, "CREATE TABLE ")?;
-        write_quoted(f, '"', self.name.as_str())?;
-        write!(f, " (\"{ID_COLUMN}\" TEXT NOT NULL PRIMARY KEY")?;
-        for column in &self.columns {
-            write!(f, ", {column}")?;
-        }
-        write!(f, ") STRICT")
-    }
-}
-
-impl fmt::Display for Column {
-    fn fmt<W: fmt::Write>(&self, f: &mut fmt::Formatter<W>) -> fmt::Result {
-        let name = self.attribute.as_str();
-        write_quoted(f, '"', name)?;
-        match self.column_type {
-            ColumnType::Bool | ColumnType::Long => write!(f, " INTEGER")?,
-            ColumnType::Text | ColumnType::Entity => write!(f, " TEXT")?,
-        }
-        if self.is_required {
-            write!(f, " NOT NULL")?;
-        }
-        match self.column_type {
-            ColumnType::Bool => {
-                write!(f, " CHECK (")?;
-                write_quoted(f, '"', name)?;
-                write!(f, " IN (0, 1))")
-            }
-            ColumnType::Text => {
-                write!(f, " CHECK (instr(")?;
-                write_quoted(f, '"', name)?;
-                write!(f, ", char(0)) = 0)")
-            }
-            ColumnType::Long | ColumnType::Entity => Ok(()),
-        }
-    }
-}
-
-/// The table of ancestors as a text: a row for each entity and each of its ancestors, for all entities that a clause names, and
-/// for those that an attribute or the parameter may be.
-#[derive(Clone, Copy)]
-pub struct AncestorTable;
-
-impl fmt::Display for AncestorTable {
-    fn fmt<W: fmt::Write>(&self, f: &mut fmt::Formatter<W>) -> fmt::Result {
-        write!(
-            f,
-            "CREATE TABLE \"{ANCESTORS}\" (\"type\" TEXT NOT NULL, \"eid\" TEXT NOT NULL, "
-        )?;
-        write!(
-            f,
-            "\"ancestor_type\" TEXT NOT NULL, \"ancestor_eid\" TEXT NOT NULL, "
-        )?;
-        write!(
-            f,
-            "PRIMARY KEY (\"type\", \"eid\", \"ancestor_type\", \"ancestor_eid\")) "
-        )?;
-        write!(f, "STRICT, WITHOUT ROWID")
-    }
-}
-
-/// The query of the ids of the rows that a clause chooses.
-#[derive(Clone, Copy)]
-pub struct SqlQuery<'a> {
-    table: &'a Table,
-    clause: &'a SqlExpr,
-}
-
-impl Table {
-    /// The query of the ids of the rows that a clause over this table chooses.
-    pub fn query<'a>(&'a self, clause: &'a SqlExpr) -> SqlQuery<'a> {
-        SqlQuery {
-            table: self,
-            clause,
-        }
-    }
-}
-
-impl fmt::Display for SqlQuery<'_> {
-    fn fmt<W: fmt::Write>(&self, f: &mut fmt::Formatter<W>) -> fmt::Result {
-        let table = self.table.name.as_str();
-        write!(f, "SELECT ")?;
-        write_column(f, table, ID_COLUMN)?;
-        write!(f, " FROM ")?;
-        write_quoted(f, '"', table)?;
-        write!(f, " WHERE {}", self.table.text_of(self.clause))
     }
 }

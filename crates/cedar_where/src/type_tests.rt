@@ -28,7 +28,7 @@ pub(crate) fn like_term(
                 return refused(loc, Reason::NotText);
             }
             if !is_plain_pattern(pattern) {
-                return refused(loc, Reason::Text);
+                return refused(loc, Reason::Pattern);
             }
             let pattern = Vec::from_slice(alloc, pattern)?;
             let sql = SqlExpr::Matches(operand.sql, pattern);

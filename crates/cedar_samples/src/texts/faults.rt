@@ -15,6 +15,9 @@ pub enum HostError {
     Io(#[from] io::Error),
     #[error("the schema is refused: {0}")]
     Schema(#[from] SchemaReadError),
+    /// A name of a namespace hides one outside of namespaces, as `N::User` hides `User`.
+    #[error("the schema is refused: `{0}` hides a name outside of its namespace")]
+    HidingName(String),
     #[error("a policy cannot be read: {0}")]
     Policies(#[from] ReadError),
     #[error("the functions have no table: {0}")]

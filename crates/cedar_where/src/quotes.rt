@@ -1,0 +1,108 @@
+// Names, texts, patterns and lists of ids, as SQLite reads them.
+use cedar_types::base::{EntityType, EntityUID, PatternElem};
+use std::fmt;
+
+/// The name of the table of ancestors. It has a blank, because no entity type does.
+pub(crate) const ANCESTORS: &str = "entity ancestors";
+
+/// Writes a text in these marks. A mark within it is doubled.
+pub(crate) fn write_quoted<W: fmt::Write>(
+    f: &mut fmt::Formatter<W>,
+    mark: char,
+    text: &str,
+) -> fmt::Result {
+    write!(f, "{mark}")?;
+    for c in text.chars() {
+        if c == mark {
+            write!(f, "{mark}")?;
+        }
+        write!(f, "{c}")?;
+    }
+    write!(f, "{mark}")
+}
+
+/// Writes a column with its table, because SQLite takes a quoted name that the table lacks for a text.
+pub(crate) fn write_column<W: fmt::Write>(
+    f: &mut fmt::Formatter<W>,
+    table: &str,
+    column: &str,
+) -> fmt::Result {
+    write_quoted(f, '"', table)?;
+    write!(f, ".")?;
+    write_quoted(f, '"', column)
+}
+
+/// Writes GLOB and its pattern, in which `*`, `?` and `[` stand for themselves within brackets.
+pub(crate) fn write_pattern<W: fmt::Write>(
+    f: &mut fmt::Formatter<W>,
+    pattern: &[PatternElem],
+) -> fmt::Result {
+    write!(f, " GLOB '")?;
+    for elem in pattern {
+        match elem {
+            PatternElem::Wildcard => write!(f, "*")?,
+            PatternElem::Char('\'') => write!(f, "''")?,
+            PatternElem::Char(c) if *c == '*' || *c == '?' || *c == '[' => write!(f, "[{c}]")?,
+            PatternElem::Char(c) => write!(f, "{c}")?,
+        }
+    }
+    write!(f, "'")
+}
+
+/// Writes the test whether an id before it is one of the ids of the entities of a type, up to another test.
+pub(crate) fn write_ids_of_type<W: fmt::Write>(
+    f: &mut fmt::Formatter<W>,
+    entity_type: &EntityType,
+    entities: &[EntityUID],
+) -> fmt::Result {
+    let mut mark = "";
+    write!(f, " IN (")?;
+    for entity in entities {
+        if entity.entity_type == *entity_type {
+            write!(f, "{mark}")?;
+            write_quoted(f, '\'', &entity.eid)?;
+            mark = ", ";
+        }
+    }
+    write!(f, ") OR ")
+}
+
+/// Writes the beginning of a query for an ancestor of an entity of this type, up to the entity's id.
+pub(crate) fn write_ancestor_query<W: fmt::Write>(
+    f: &mut fmt::Formatter<W>,
+    entity_type: &EntityType,
+) -> fmt::Result {
+    write!(f, "EXISTS (SELECT 1 FROM \"{ANCESTORS}\" WHERE ")?;
+    write!(f, "\"{ANCESTORS}\".\"type\" = '{entity_type}' AND ")?;
+    write!(f, "\"{ANCESTORS}\".\"eid\" = ")
+}
+
+/// Writes the condition that the ancestor is of this type and has an id, up to the id.
+pub(crate) fn write_ancestor<W: fmt::Write>(
+    f: &mut fmt::Formatter<W>,
+    ancestor_type: &EntityType,
+) -> fmt::Result {
+    write!(
+        f,
+        " AND \"{ANCESTORS}\".\"ancestor_type\" = '{ancestor_type}' AND "
+    )?;
+    write!(f, "\"{ANCESTORS}\".\"ancestor_eid\" = ")
+}
+
+/// Writes the condition that the ancestor is one of these entities. They are rows of a table, because SQLite seeks each id of a
+/// list by itself, and a chain of OR for 1,000 entities is too high. The query and its case end here.
+pub(crate) fn write_ancestor_among<W: fmt::Write>(
+    f: &mut fmt::Formatter<W>,
+    entities: &[EntityUID],
+) -> fmt::Result {
+    write!(f, " AND (\"{ANCESTORS}\".\"ancestor_type\", ")?;
+    write!(f, "\"{ANCESTORS}\".\"ancestor_eid\") IN (")?;
+    let mut mark = "VALUES ";
+    for entity in entities {
+        write!(f, "{mark}('{}', ", entity.entity_type)?;
+        write_quoted(f, '\'', &entity.eid)?;
+        write!(f, ")")?;
+        mark = ", ";
+    }
+    write!(f, ")) END")
+}
