@@ -22,6 +22,13 @@ before. Counted is a run by the ancestors that all have together. In layers an a
 though many parents have the same ancestors; twice as many groups that are each in all before have four times as many ancestors,
 and cost no more than that. Then the most memory of a long chain, by the ancestor. And what an empty list of entities takes beyond
 its schema, which declares actions: twice as many of them take little more than twice as much.
+
+**Schemas.** A schema can ask for more than its text is long: types of a long namespace, environments, descendants in a chain,
+declarations of many names. Each has a limit (docs/READING.md). At the limit printed is the most memory, which stays below 50 MiB;
+beyond it, and for aliases that stand for each other, twice the text takes less than 2.5 times as many instructions.
+
+**Names that are looked for.** As many policies as a schema has types name one type each that it does not have, and a hint is the
+nearest. A scope lists all actions of a schema: typing looks at each of them in each environment, so there is no limit to hold.
 """
 import json
 import sys
@@ -162,6 +169,97 @@ def for_actions(bench, count):
     return instructions(bench, "--entities", none, schema) - instructions(bench, schema, policies)
 
 
+# ---- schemas that ask for more than they are long
+
+# What twice the text may take, in times: an exponent of 1.3.
+LINEAR = 2.5
+
+
+def listed(letter, count):
+    """So many names of a letter and a number."""
+    return ", ".join(f"{letter}{number}" for number in range(count))
+
+
+def action(name, principals="P", resources="P", context="{ }"):
+    return f"action {name} appliesTo {{ principal: [{principals}], resource: [{resources}], context: {context} }};\n"
+
+
+def in_a_namespace(parts, types):
+    """So many types of a namespace whose name has so many parts."""
+    name = "::".join(f"A{number}" for number in range(parts))
+    return f"namespace {name} {{ entity {listed('E', types)}; }}\n"
+
+
+def applied(count):
+    """So many actions, by as many principal and resource types."""
+    types = listed("T", count)
+    return f"entity {types};\n" + action(listed("a", count), types, types)
+
+
+def in_a_line(kind, count):
+    """So many types or actions, each in the one before."""
+    behind = "".join(f"{kind} T{number} in [T{number - 1}];\n" for number in range(1, count))
+    return f"entity P;\n{kind} T0;\n{behind}" + action("go")
+
+
+def aliases(count, of_number):
+    """So many aliases, of which each names one."""
+    named = "".join(f"type C{number} = C{of_number(number)};\n" for number in range(count))
+    return f"entity P;\n{named}type C{count} = Long;\n" + action("go")
+
+
+def one_context(count):
+    """So many actions, whose context is one alias of as many attributes."""
+    fields = ", ".join(f"f{number}: Long" for number in range(count))
+    return f"entity P;\ntype R = {{ {fields} }};\n" + "".join(action(f"a{number}", context="R") for number in range(count))
+
+
+def with_attributes(count):
+    """So many types in one declaration, with as many attributes."""
+    fields = ", ".join(f"f{number}: Long" for number in range(count))
+    return f"entity P;\nentity {listed('E', count)} {{ {fields} }};\n" + action("go")
+
+
+def with_ids(count):
+    """So many enumerated types in one declaration, with as many ids."""
+    ids = ", ".join(f'"{number}"' for number in range(count))
+    return f"entity P;\nentity {listed('E', count)} enum [{ids}];\n" + action("go")
+
+
+def of_schema(make):
+    """The bytes of a schema of a size, the most memory of a run on it, and the instructions, whether it is read or refused."""
+    def figure(bench, size):
+        text = make(size)
+        paths = bench.write("schema", text), bench.write("policy", f"{SCOPE};\n")
+        return len(text), bench.held(*paths)[1], bench.instructions(*paths, statuses=(0, 2))
+
+    return figure
+
+
+def schemas(what, make, size):
+    """Two rows: the memory at the largest size of a schema that is read, and the instructions beyond it."""
+    line = "{size:,} {what}, {figure[0]:,} bytes: {figure[1]:,} KiB at most, {figure[2]:,} instructions"
+    yield Row(what, (size,), of_schema(make), line, of=1, most=50 << 10)
+    yield Row(what, (2 * size, 4 * size), of_schema(make), line, times=LINEAR)
+
+
+# ---- names that are looked for
+
+def of_unknown_types(bench, count):
+    """The instructions of so many policies, each with a wrong type, by as many types."""
+    types = "".join(f"entity Type{number:05};\n" for number in range(count))
+    policies = "".join(f"permit(principal is Typo{number:05}, action, resource);\n" for number in range(count))
+    return instructions(bench, bench.write("schema", types + action("go", "Type00000", "Type00000")), bench.write("policy", policies))
+
+
+def of_listed_actions(bench, count):
+    """The instructions of a policy whose scope lists all of so many actions."""
+    schema = "entity P;\n" + "".join(action(f"act{number}") for number in range(count))
+    named = ", ".join(f'Action::"act{number}"' for number in range(count))
+    policy = f"permit(principal, action in [{named}], resource);\n"
+    return instructions(bench, bench.write("schema", schema), bench.write("policy", policy))
+
+
 OF_HASHES = "{size} {what}, of one hash: {figure[0]:,} instructions, {figure[1]:,} where they differ, {figure[2]:.2f} times as many"
 OF_GROUPS = "{size[0]}, {figure[0]:,} ancestors: {figure[1]:,} instructions, {figure[2]:,.0f} an ancestor"
 ROWS = (
@@ -176,6 +274,18 @@ ROWS = (
     Row("", [(f"{count} groups, each in all before", stairs(count)) for count in (200, 400)], of_groups, OF_GROUPS, of=1, times=4.6),
     # An ancestor takes a pointer, a number, and what a vector has to spare.
     Row("a chain", (2800,), of_long_chain, "{what} of {size} groups, {figure[0]:,} ancestors: {figure[1]:,} KiB at most, {figure[2]:.0f} bytes an ancestor", most=40),
+    *schemas("types of a namespace of 64 parts", lambda count: in_a_namespace(64, count), 1000),
+    *schemas("parts of a namespace by types", lambda count: in_a_namespace(count, count), 64),
+    *schemas("actions by as many principal and resource types", applied, 50),
+    *schemas("types in a line", lambda count: in_a_line("entity", count), 512),
+    *schemas("actions in a line", lambda count: in_a_line("action", count), 512),
+    *schemas("aliases in a line", lambda count: aliases(count, lambda number: number + 1), 250),
+    *schemas("aliases of themselves", lambda count: aliases(count, lambda number: number), 250),
+    *schemas("actions by attributes of one context", one_context, 500),
+    *schemas("types by attributes of one declaration", with_attributes, 500),
+    *schemas("types by ids of one declaration", with_ids, 700),
+    Row("policies with a wrong type, by as many types", (250, 500, 1000), of_unknown_types, "{size:,} {what}: {figure:,} instructions", ", {times:.2f} times as many"),
+    Row("actions in a scope", (150, 300), of_listed_actions, "{size:,} {what}: {figure:,} instructions", ", {times:.2f} times as many"),
     Row("an empty list of entities", (1500, 3000), for_actions, "{what}, by {size:,} actions: {figure:,} instructions", times=2.6),
 )
 
