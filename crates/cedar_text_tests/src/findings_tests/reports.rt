@@ -108,8 +108,8 @@ fn nothing_found(rt: HostRuntime) -> Result<(), Fail> {
         ("lines", true, 0),
         ("json", false, 1),
         ("json", true, 0),
-        ("sarif", false, 35),
-        ("sarif", true, 35),
+        ("sarif", false, 36),
+        ("sarif", true, 36),
     ] {
         let Some(mut format) = Format::by_name(name) else {
             continue;

@@ -128,18 +128,18 @@ const CASES: [(&str, &str, &str); 5] = [
         OLD,
         WIDER,
         "p:1:1: policy `kept`: new environments\n  \
+           newly for Action::\"view\" by Bot on Photo\n  \
            newly for Action::\"edit\" by Bot on Photo\n  \
-           newly for Action::\"edit\" by User on Photo\n  \
-           newly for Action::\"view\" by Bot on Photo\n\
+           newly for Action::\"edit\" by User on Photo\n\
          p:2:1: policy `loses`: new environments\n  \
+           newly for Action::\"view\" by Bot on Photo\n  \
            newly for Action::\"edit\" by Bot on Photo\n  \
-           newly for Action::\"edit\" by User on Photo\n  \
-           newly for Action::\"view\" by Bot on Photo\n\
+           newly for Action::\"edit\" by User on Photo\n\
          p:3:17: fault: `,` is expected, where `)` is read\n\
          p:4:1: policy `t`: new environments\n  \
+           newly for Action::\"view\" by Bot on Photo\n  \
            newly for Action::\"edit\" by Bot on Photo\n  \
-           newly for Action::\"edit\" by User on Photo\n  \
-           newly for Action::\"view\" by Bot on Photo\n\
+           newly for Action::\"edit\" by User on Photo\n\
          p:4:1: policy `l`: new environments\n  \
            newly for Action::\"edit\" by User on Photo\n\
          policies: 4, changed: 4, worse: 0, faults: 1\n",
@@ -148,18 +148,18 @@ const CASES: [(&str, &str, &str); 5] = [
         WIDER,
         OLD,
         "p:1:1: policy `kept`: lost environments\n  \
+           no longer for Action::\"view\" by Bot on Photo\n  \
            no longer for Action::\"edit\" by Bot on Photo\n  \
-           no longer for Action::\"edit\" by User on Photo\n  \
-           no longer for Action::\"view\" by Bot on Photo\n\
+           no longer for Action::\"edit\" by User on Photo\n\
          p:2:1: policy `loses`: lost environments\n  \
+           no longer for Action::\"view\" by Bot on Photo\n  \
            no longer for Action::\"edit\" by Bot on Photo\n  \
-           no longer for Action::\"edit\" by User on Photo\n  \
-           no longer for Action::\"view\" by Bot on Photo\n\
+           no longer for Action::\"edit\" by User on Photo\n\
          p:3:17: fault: `,` is expected, where `)` is read\n\
          p:4:1: policy `t`: lost environments\n  \
+           no longer for Action::\"view\" by Bot on Photo\n  \
            no longer for Action::\"edit\" by Bot on Photo\n  \
-           no longer for Action::\"edit\" by User on Photo\n  \
-           no longer for Action::\"view\" by Bot on Photo\n\
+           no longer for Action::\"edit\" by User on Photo\n\
          p:4:1: policy `l`: lost environments\n  \
            no longer for Action::\"edit\" by User on Photo\n\
          policies: 4, changed: 4, worse: 0, faults: 1\n",

@@ -189,8 +189,8 @@ pub const CONDITIONS: [(&str, u8, &str); 40] = [
     ),
     (
         "true || !-5.x",
-        0,
-        "p:1:1: policy `policy0`: accepted, level 0",
+        2,
+        "p:1:53: fault: `!` and `-` side by side, where `-5` is read",
     ),
     (
         "true || -5.contains(1)",

@@ -176,7 +176,7 @@ pub const HINTS: [(&str, &[&str]); 50] = [
         "resource is Animal",
         &[
             "unrecognized entity type `Animal`; the schema declares `Job`, `List`, `Photo`, \
-             `User`, `Video`, `App::Doc`",
+             `Video`, `User`, `App::Doc`",
         ],
     ),
     (
