@@ -104,7 +104,7 @@ impl Table {
             (TEntity (type_of entity_type.now ∷ []))))) }
     {
         let name = entity_type.to_string(alloc)?;
-        if let Some(fault) = name_fault(alloc, schema, entity_type, &name)? {
+        if let Some(fault) = name_fault(alloc, schema, entity_type, name.as_str())? {
             return Ok(Err(fault));
         }
         let ty = CedarType::entity_reference(alloc, entity_type, schema)?;
