@@ -74,8 +74,8 @@ SCHEMAS = (
     ("entity A { a: " + "Set<" * LARGE, 2, "s:1:3211: fault: nested too deep, as a type that contains itself is"),
     ("type T0 = Long; " + "".join(f"type T{i + 1} = {{a: T{i}, b: T{i}}}; " for i in range(99)), 2, "s:1:"),
     ("".join(f"entity T{i} {{ a: T{i * 7 % 10_000} }};\n" for i in range(10_000)) + SCHEMA, 0, "p:1:1: policy `policy0`: accepted"),
-    ("".join(f"entity T{i} in [T{i + 1}];\n" for i in range(20_000)) + "entity T20000;", 2, "s:1449:8: fault: too many descendants"),
-    (SCHEMA + f"entity {', '.join(f'A{i}' for i in range(1100))} in [{', '.join(f'A{i}' for i in range(1100))}];", 2, "s:4:8: fault: too many descendants"),
+    ("".join(f"entity T{i} in [T{i + 1}];\n" for i in range(20_000)) + "entity T20000;", 2, "s:513:8: fault: more than 131,072 descendants of entity types, or of actions, together"),
+    (SCHEMA + f"entity {', '.join(f'A{i}' for i in range(1100))} in [{', '.join(f'A{i}' for i in range(1100))}];", 2, "s:4:8: fault: declarations of several names that repeat more than a million words"),
 )
 
 
