@@ -39,6 +39,8 @@ def make(crates, folder, top=TOP):
     """Makes a copy that has only these crates of the repository, without what was built of them."""
     shutil.rmtree(folder, ignore_errors=True)
     folder.mkdir(parents=True)
+    # (`rt ci` runs only at the top of a repository, and the copy may lie inside of one)
+    (folder / ".git").mkdir()
     shutil.copy2(top / "HANDLES", folder / "HANDLES")
     lines = (top / "crates.txt").read_text(encoding="utf8").splitlines(True)
     named = [line for line in lines if line.partition("#")[0].partition(":")[0].split()[:1] in [[it] for it in crates]]
