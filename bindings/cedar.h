@@ -7,8 +7,8 @@
  * Pointers must not be NULL, not even for a length of 0. `call`, `answer` and `needed` must not overlap.
  *
  * Stack: a call fits a thread with a stack of 1 MiB at the depth that it has if it asks for none, as was measured for each kind of nesting.
- * A condition that is deeper than the call allows is refused before it is checked, and a text of which 400 brackets and operators, or
- * twice the depth, stand inside each other is not read. A call that sets "depth" higher, up to 400, needs CEDAR_STACK(depth) bytes.
+ * A condition that is deeper than the call allows is refused before it is checked. A text is not read if its brackets and operators are
+ * nested more than 400 deep, and more than twice the depth. A call that sets "depth" higher, up to 400, needs CEDAR_STACK(depth) bytes.
  *
  * Proved, of a library that is built by a proof: each call is safe and returns, its status, `needed` and the buffer are as said
  * below; a policy that is accepted in Strict or in Permissive mode does not go wrong, at a level it needs the slice alone, and a level
