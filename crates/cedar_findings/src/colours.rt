@@ -1,6 +1,5 @@
 //! Colours of the kinds of findings, in lines for people.
 use crate::escapes::ShownFile;
-use crate::texts::push_all;
 use std::alloc::{AllocError, Global};
 use std::env::VarError;
 
@@ -64,7 +63,8 @@ fn push_line(shown: &mut String, file: &str, line: &str) -> Result<(), AllocErro
     let before = line.get(..kind.start).unwrap_or("");
     let behind = line.get(kind.start..).unwrap_or("");
     let behind = behind.strip_prefix(kind.text).unwrap_or("");
-    push_all(shown, &[before, colour, kind.text, END, behind])
+    let text = kind.text;
+    write!(shown, "{before}{colour}{text}{END}{behind}")
 }
 
 /// A kind, and the byte of its line at which it stands.
