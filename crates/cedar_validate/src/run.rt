@@ -19,10 +19,11 @@ pub fn run<R: Files + AllocGlobal + Input, O: Write, E: Write, T: Write>(
 ) -> u8 {
     match answer(call, words, err) {
         Ok(status) => status,
-        // nobody reads the output any more, as behind `| head`, so there is nothing to say
-        Err(error) if error.kind() == ErrorKind::BrokenPipe => 2,
         Err(error) => {
-            let _ = writeln!(err, "cedar-validate: {error}");
+            // behind `| head` nobody reads the output any more, so there is nothing to say
+            if error.kind() != ErrorKind::BrokenPipe {
+                let _ = writeln!(err, "cedar-validate: {error}");
+            }
             2
         }
     }
