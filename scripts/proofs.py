@@ -7,9 +7,10 @@ hand into the store of this machine, so that scripts/prove takes it. A proof who
 each crate above it. Whoever imports a file trusts who made it: the sums say of which texts a proof is, and not that it is one.
 `check` proves one library again, over the libraries below that are kept, and compares all its bytes with those that are kept.
 
-A kit that keeps proofs itself looks by its own sums whether a proof fits; its folders are exported and imported as they are. The
-exit status is 0 if something was written, taken or found equal, 1 if not, and 2 where an argument is wrong.
+Where a kit keeps proofs itself, its own sums say which of them are of the texts at hand. The exit status is 0 if something was
+written, taken or found equal, 1 if not, and 2 where an argument is wrong.
 """
+import contextlib
 import hashlib
 import json
 import os
@@ -17,6 +18,7 @@ import sys
 import tarfile
 import tempfile
 from pathlib import Path
+from types import SimpleNamespace
 
 import unproved
 from gate import copies, kept, lanes
@@ -75,21 +77,80 @@ class OwnStore(Store):
         record = self.kept.record(crate, "proof")
         return record is not None and record.name == proof.name
 
+    def is_same_anew(self, crate):
+        """Whether a library has the bytes that are kept, once it is proved again in the current folder."""
+        anew = Anew(os.getcwd(), self.folder, crate)
+        status = lanes.ci(kept.module_of_kit(), anew.over)
+        return status == 0 and anew.answers == [True]
+
 
 class StoreOfKit(Store):
-    """The store in which a kit keeps proofs itself, in folders that are named by the crate."""
+    """The store in which a kit keeps proofs itself, by keys of its own."""
+
+    def __init__(self, rt, top=TOP):
+        super().__init__(rt.STORE, top)
+        self.rt, self.keys = rt, {}
+        # (the kit reads only the crates of a folder without a repository around it)
+        self.room = tempfile.TemporaryDirectory()
+        copy = Path(self.room.name, "copy")
+        copies.make(self.libraries(), copy, self.top)
+        rt.Crate.allowed = rt.handles_of(str(copy))
+        self.crates = {it.name: it for it in rt.crates_of(str(copy))}
+
+    def key(self, crate):
+        """The kit's key of a library as its texts are, over those below that are kept; nothing where one of these is not."""
+        if crate not in self.keys:
+            below = {it.name: self.files(it.name) for it in self.crates[crate].below()}
+            if not all(below.values()):
+                return None
+            rlibs = {name: hashlib.sha256(repr([tuple(it) for it in files]).encode()).hexdigest() for name, files in below.items()}
+            self.keys[crate] = self.rt.Kept.key(SimpleNamespace(rlibs=rlibs), self.crates[crate])
+        return self.keys[crate]
+
+    def place(self, crate):
+        return self.folder / f"proof-{crate}-{self.key(crate)}"
+
+    def files(self, crate):
+        """The files of a library that is kept, each with its sum; nothing where none is."""
+        return listed_files(self.place(crate), self.key(crate))
 
     def proof(self, crate):
-        found = [it for it in self.folder.glob(f"proof-{crate}-*") if it.is_dir()]
-        return max(found, key=lambda it: it.stat().st_mtime, default=None)
+        return self.place(crate) if self.files(crate) else None
 
     def takes(self, crate, proof):
-        return proof.name.startswith(f"proof-{crate}-")
+        return proof.name == self.place(crate).name and bool(listed_files(proof, self.key(crate)))
+
+    def is_same_anew(self, crate):
+        """Whether a library has the bytes that are kept, once it is proved again in the current folder."""
+        answers, files, sum_of_file = [], self.files(crate), self.rt.rtlib.sum_of
+
+        class KeptAnew(self.rt.Kept):
+            def give(self, it, tests, key):
+                return it.name != crate and super().give(it, tests, key)
+
+            def in_turn(self, it, tests, key):
+                return contextlib.nullcontext(False) if it.name == crate else super().in_turn(it, tests, key)
+
+            def keep(self, it, tests, key):
+                if it.name == crate and not tests:
+                    answers.append([[path, sum_of_file(f"{it.folder}/out/{path}")] for path in self.made(it, tests)] == files)
+
+        self.rt.Kept = KeptAnew
+        return lanes.ci(self.rt, lambda tasks: tasks) == 0 and answers == [True]
+
+
+def listed_files(proof, key):
+    """The files of a proof that a kit kept by a key, each with its sum; nothing where the folder has no such list."""
+    try:
+        made = json.loads((proof / "made.json").read_text(encoding="utf8"))
+        return [[str(path), str(of)] for path, of in made["files"]] if key and made["key"] == key else None
+    except (OSError, ValueError, KeyError, TypeError):
+        return None
 
 
 def store():
-    of_kit = kept.of_kit(unproved.module_of_kit("rt"))
-    return StoreOfKit(of_kit, TOP) if of_kit else OwnStore()
+    rt = kept.module_of_kit()
+    return StoreOfKit(rt) if kept.of_kit(rt) else OwnStore()
 
 
 def export(file, its):
@@ -139,9 +200,10 @@ def why_not(its, crate, folder, texts, sum_of_bytes):
 
 def take(file, its):
     """Puts each proof of a file that fits into a store, and answers their crates."""
-    its.folder.mkdir(parents=True, exist_ok=True)
+    its.folder.mkdir(mode=0o700, parents=True, exist_ok=True)
     taken = []
-    with tempfile.TemporaryDirectory(prefix="new-", dir=its.folder) as held:
+    # (by this name the next run takes away what an import that was killed has left)
+    with tempfile.TemporaryDirectory(prefix=f"rt-new-{os.getpid()}-", dir=its.folder) as held:
         room = Path(held)
         rows = unpacked(file, room)
         for crate in its.libraries():
@@ -180,18 +242,16 @@ def check(crate, its):
     """Whether a library that is proved again has the bytes of the one that is kept."""
     if crate not in its.libraries():
         raise Wrong(f"there is no library {crate}\n{USAGE}")
-    if isinstance(its, StoreOfKit):
-        raise Wrong("this kit keeps proofs itself, and says nothing of their bytes")
     for name in its.with_below(crate):
         if its.proof(name) is None:
             raise Wrong(f"this machine keeps no proof of {name} as its texts are")
     with tempfile.TemporaryDirectory() as held:
         copies.make(its.with_below(crate), Path(held, "copy"))
         os.chdir(Path(held, "copy"))
-        anew = Anew(os.getcwd(), its.folder, crate)
-        status = lanes.ci(lambda rt, tasks: anew.over(tasks))
-        os.chdir(TOP)
-    return status == 0 and anew.answers == [True]
+        try:
+            return its.is_same_anew(crate)
+        finally:
+            os.chdir(TOP)
 
 
 def main(words):

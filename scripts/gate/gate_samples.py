@@ -6,6 +6,7 @@ It proves and builds nothing: a command `rt` of its own stands in for the toolch
 went as they should.
 """
 import contextlib
+import hashlib
 import io
 import json
 import os
@@ -18,6 +19,7 @@ import tempfile
 import threading
 import time
 from pathlib import Path
+from types import SimpleNamespace
 from unittest import mock
 
 sys.path.insert(0, str(Path(__file__).resolve().parent.parent))
@@ -423,6 +425,76 @@ def travels():
         yield "no such file", "is no file of" in why_nothing(lambda: travelling.take(file, store))
 
 
+class KitThatKeeps:
+    """What stands for the module `rt` of a kit that keeps proofs itself, in a store, of the crates of a checkout."""
+
+    class Crate:
+        allowed = ()
+
+        def __init__(self, top, name, below):
+            self.name, self.folder, self.libraries = name, f"{top}/crates/{name}", below
+
+        def below(self):
+            return self.libraries
+
+    class Kept:
+        def key(self, crate):
+            return hashlib.sha256(repr((Path(crate.folder, "src", "lib.rt").read_text(), [self.rlibs[it.name] for it in crate.below()])).encode()).hexdigest()
+
+    def __init__(self, store):
+        self.STORE = str(store)
+
+    def handles_of(self, top):
+        return ()
+
+    def crates_of(self, top):
+        low = self.Crate(top, "low", [])
+        return [low, self.Crate(top, "high", [low])]
+
+    def keep(self, top):
+        """Keeps what it proves of both crates of a checkout."""
+        its = travelling.StoreOfKit(self, top)
+        for crate in ("low", "high"):
+            its.place(crate).mkdir(parents=True)
+            Path(its.place(crate), "0").write_text("a library")
+            Path(its.place(crate), "made.json").write_text(json.dumps({"key": its.key(crate), "files": [["rlib/it", its.key(crate)]]}))
+
+
+def travels_by_kit():
+    """Which proofs of a file are taken where the kit keeps proofs itself."""
+    with tempfile.TemporaryDirectory() as room, contextlib.redirect_stdout(io.StringIO()):
+        here, there = Checkout(Path(room, "here")), Checkout(Path(room, "there"))
+        file, kit, other = Path(room, "proofs"), KitThatKeeps(here.store), KitThatKeeps(there.store)
+        yield "nothing to export", "keeps no proof" in why_nothing(lambda: travelling.export(file, travelling.StoreOfKit(kit, here.top)))
+        here.write("high", "an older text")
+        kit.keep(here.top)
+        here.write("high", "a text")
+        yield "an older text", travelling.export(file, travelling.StoreOfKit(kit, here.top)) == ["low"]
+        shutil.rmtree(here.store)
+        kit.keep(here.top)
+        yield "exported", travelling.export(file, travelling.StoreOfKit(kit, here.top)) == ["low", "high"]
+        its = travelling.StoreOfKit(other, there.top)
+        yield "imported", travelling.take(file, its) == ["low", "high"] and its.files("high") and (its.place("low") / "0").is_file()
+        yield "nothing is left beside", len([*there.store.iterdir()]) == 2
+        shutil.rmtree(there.store)
+        there.write("high", "another text")
+        yield "another text", travelling.take(file, travelling.StoreOfKit(other, there.top)) == ["low"]
+        there.write("low", "another text")
+        yield "another text below", travelling.take(file, travelling.StoreOfKit(other, there.top)) == []
+        there.write("low", "a text")
+        repacked(file, lambda rows: rows["low"].update(folder=rows["high"]["folder"], bytes=rows["high"]["bytes"]))
+        yield "the proof of another crate", travelling.take(file, travelling.StoreOfKit(other, there.top)) == []
+
+
+def store_that_is_named():
+    """Where proofs are kept, if CEDAR_PROOFS names a folder."""
+    for at, keeps in ((None, True), ("elsewhere", True), ("elsewhere", False)):
+        rt = SimpleNamespace(STORE="/of/kit", WORK="/of/kit/work") if keeps else SimpleNamespace()
+        with mock.patch.dict(os.environ, {kept.NAMED: at} if at else {}), mock.patch.object(unproved, "module_of_kit", lambda name: rt):
+            found = kept.of_kit(kept.module_of_kit())
+        yield f"{at} {keeps}", found == ((Path("/of/kit") if at is None else Path.cwd() / at) if keeps else None)
+
+
 def why_nothing(call):
     try:
         call()
@@ -499,7 +571,7 @@ def endings():
 
 def main():
     passed = failed = 0
-    for part in (lines, forecasts, contents, installations, libraries, shares, keeping, travels, beginnings, endings):
+    for part in (lines, forecasts, contents, installations, libraries, shares, keeping, travels, travels_by_kit, store_that_is_named, beginnings, endings):
         for what, is_well in part():
             passed += is_well
             failed += not is_well

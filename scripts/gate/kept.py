@@ -5,6 +5,8 @@ and the bytes of the libraries below, because a library fits only the very libra
 of out/ that `rt ci` left, once it had proved the crate from nothing, with a sum of its bytes. So another text or kit
 proves the crate anew, and every crate above it, and so do other bytes. On another machine the key of a proof is the same,
 because the same texts give the same bytes there (scripts/proofs takes proofs along). A proof that no run has taken for a week goes.
+
+CEDAR_PROOFS names another folder in the place of the store, also where the kit keeps proofs itself.
 """
 import hashlib
 import os
@@ -16,8 +18,9 @@ from pathlib import Path
 
 import unproved
 
+NAMED = "CEDAR_PROOFS"
 # (by the user, because HOME may be another in CI)
-FOLDER = Path(pwd.getpwuid(os.getuid()).pw_dir) / ".cache" / "cedar-proofs"
+FOLDER = Path(os.environ.get(NAMED) or Path(pwd.getpwuid(os.getuid()).pw_dir) / ".cache" / "cedar-proofs")
 WEEK = 7 * 24 * 3600
 # In the folder of a proof: the sum of its library, when it was made, and the sum of its bytes.
 MARK = "mark"
@@ -25,9 +28,18 @@ SINCE = "since"
 SUM = "sum"
 
 
+def module_of_kit():
+    """The kit's module `rt`, which keeps proofs in the folder that CEDAR_PROOFS names, if it keeps any itself."""
+    rt = unproved.module_of_kit("rt")
+    if of_kit(rt) and os.environ.get(NAMED):
+        rt.STORE = os.path.abspath(os.environ[NAMED])
+        rt.WORK = f"{rt.STORE}/work"
+    return rt
+
+
 def of_kit(rt):
     """The folder in which a kit keeps proofs itself, by its module `rt`; nothing where it keeps none."""
-    return unproved.kit().parent / "rattle-kept" if hasattr(rt, "STORE") else None
+    return Path(rt.STORE) if hasattr(rt, "STORE") else None
 
 
 def parts_of(crate, part):

@@ -16,7 +16,6 @@ from concurrent.futures import FIRST_COMPLETED, ThreadPoolExecutor, wait
 from pathlib import Path
 
 sys.path.insert(0, str(Path(__file__).resolve().parent.parent))
-import unproved  # noqa: E402
 from gate import kept, times  # noqa: E402
 from gate.kept import Kept  # noqa: E402
 
@@ -107,27 +106,28 @@ def are_known(tasks):
     return all(len(key) == 2 and key[1] in PARTS and len(task) == 4 and all(it in tasks for it in task[0]) for key, task in tasks.items())
 
 
-def ci(over):
-    """Runs `rt ci` in the current folder, over tasks that a function makes of its own. Its status."""
-    rt = unproved.module_of_kit("rt")
+def ci(rt, over):
+    """Runs `rt ci` of the kit's module `rt` in the current folder, over tasks that a function makes of its own. Its status."""
     own = rt.in_lanes
 
     def in_lanes(tasks):
         if not are_known(tasks):
             print("rt: this kit has other tasks than scripts/gate/lanes.py knows, so it shares processors by itself", flush=True)
             return own(tasks)
-        return side_by_side(over(rt, tasks), rt.processors(), memory_beside(rt.free()))
+        return side_by_side(over(tasks), rt.processors(), memory_beside(rt.free()))
 
     rt.in_lanes = in_lanes
     return rt.main(["ci"])
 
 
 def main(words):
-    def over(rt, tasks):
+    rt = kept.module_of_kit()
+
+    def over(tasks):
         measured = times.of(tasks, os.getcwd(), words[0]) if words else tasks
         return measured if kept.of_kit(rt) else Kept(os.getcwd()).over(measured)
 
-    return ci(over)
+    return ci(rt, over)
 
 
 if __name__ == "__main__":
