@@ -10,7 +10,7 @@ import subprocess
 import sys
 from pathlib import Path
 
-from docs import api_pages, files as listings, promise, rows, trusted
+from docs import api_pages, files as listings, pictures, promise, rows, trusted
 from docs.definitions import Gone
 
 TOP = Path(__file__).resolve().parent.parent
@@ -73,6 +73,7 @@ def stale(files):
     for path, text in whole.items():
         if files.get(path) != text:
             yield path, 0, "what the scripts make of the sources is not this: run scripts/pages.py"
+    yield from pictures.stale(files)
     for path, text in pages(files):
         if path.startswith(f"{api_pages.FOLDER}/") and path not in whole and not gone:
             yield path, 0, "no script makes this page: take it away"
@@ -106,7 +107,7 @@ def sources():
 
 def write(files):
     """Writes each page anew that shows something else than the scripts make."""
-    texts = whole_pages(files)[0] | {path: written(text, files) for path, text in pages(files) if MADE.search(text)}
+    texts = whole_pages(files)[0] | {path: written(text, files) for path, text in pages(files) if MADE.search(text)} | pictures.drawn(files)
     for path, text in texts.items():
         if files.get(path) != text:
             print(f"{path} is written anew")

@@ -11,6 +11,17 @@ from pathlib import Path
 TOP = Path(__file__).resolve().parents[2]
 FOLDERS = ("src", "specs")
 TESTS = "_tests"
+SUBJECTS = {
+    "the three libraries": "cedar_types cedar_typing cedar_typechecker cedar_node_types",
+    "readers of texts": "cedar_reading cedar_json cedar_extensions",
+    "data": "cedar_conformance cedar_data",
+    "hosts": "cedar_host cedar_where cedar_samples",
+    "verdicts on texts": "cedar_findings cedar_verdicts",
+    "the program": "cedar_validate",
+    "the C library": "cedar_calls cedar_c",
+    "the language server": "cedar_frames cedar_editor cedar_language_server",
+}
+TESTING = "rows, cases, tests and examples"
 COMMENT = re.compile(r"^(?://!|//|--) ?(.*)$")
 ERROR = re.compile(r'#\[error\("for policy `\{policy_id\}`, \{0\}", Message\(self\)\)\]\npub struct (\w+)')
 ERRORS = "crates/cedar_types/src/base/errors/"
@@ -45,12 +56,33 @@ def crates_of(files):
     return [(name.split()[0], below.split()) for name, _, below in (line.partition(":") for line in lines)]
 
 
+def subjects_of(files):
+    """Each subject with its crates, lowest first; the crates without one are those of rows, cases, tests and examples."""
+    named = {name: subject for subject, names in SUBJECTS.items() for name in names.split()}
+    found = {subject: [] for subject in (*SUBJECTS, TESTING)}
+    for crate, _ in crates_of(files):
+        found[named.get(crate, TESTING)].append(crate)
+    return found
+
+
+def subjects_below(files):
+    """The subjects below each subject, at any distance."""
+    subject_of = {crate: subject for subject, names in subjects_of(files).items() for crate in names}
+    below = {subject: set() for subject in subjects_of(files)}
+    for crate, others in crates_of(files):
+        below[subject_of[crate]] |= {subject_of[other] for other in others if other in subject_of} - {subject_of[crate]}
+    for _ in below:
+        below = {subject: others.union(*(below[other] for other in others)) for subject, others in below.items()}
+    return below
+
+
 def crates(files):
     """What ARCHITECTURE shows."""
-    lines = ["| Crate | What it has |", "|---|---|"]
-    for crate, _ in crates_of(files):
-        root = files.get(f"crates/{crate}/src/lib.rt") or files.get(f"crates/{crate}/src/main.rt") or ""
-        lines.append(f"| `{crate}` | {cell(first_sentence(root))} |")
+    lines = ["| Subject | Crate | What it has |", "|---|---|---|"]
+    for subject, names in subjects_of(files).items():
+        for crate in names:
+            root = files.get(f"crates/{crate}/src/lib.rt") or files.get(f"crates/{crate}/src/main.rt") or ""
+            lines.append(f"| {subject if crate == names[0] else ''} | `{crate}` | {cell(first_sentence(root))} |")
     return lines
 
 

@@ -135,6 +135,7 @@ FILES = [
     ("an overview without its block", "block", *changed("docs/API.md", "# The calls\n")),
     ("a page without its block", "block", *changed("docs/PROMISE.md", "# The promise\n")),
     ("a page of a definition that is gone", "definition", *note("<!-- made: promise_safe -->\n<!-- end -->")),
+    ("a picture of an older text", "made", {"docs/NOTE.md": "![It](walk.svg)\n", "docs/walk.svg": "<svg/>\n"}, "docs/walk.svg:1:"),
     ("a library's page that is gone", "made", API | {"docs/api/demo.md": None, "docs/API.md": None}, "docs/api/demo.md:1:"),
     ("an empty page of a library", "made", API | {"docs/api/demo.md": "", "docs/API.md": None}, "docs/api/demo.md:1:"),
     ("a page of no library", "maker", API | {"docs/api/more.md": "More.\n"}, "docs/api/more.md:1:"),
