@@ -10,7 +10,7 @@ import subprocess
 import sys
 from pathlib import Path
 
-from docs import api_pages, files as listings, pictures, promise, rows, trusted
+from docs import api_pages, files as listings, pictures, pieces, promise, rows, trusted
 from docs.definitions import Gone
 
 TOP = Path(__file__).resolve().parent.parent
@@ -25,6 +25,7 @@ MAKERS = {
     "tasks": api_pages.first_tasks,
     **promise.makers(),
     **promise.FORM_MAKERS,
+    **pieces.makers(),
 }
 # The blocks that a page must have.
 BLOCKS = {

@@ -1,0 +1,32 @@
+"""Files, and functions of files, that the pages show as they stand."""
+from functools import partial
+
+from docs import api_pages
+from docs.definitions import Gone
+
+SAMPLES = "crates/cedar_samples/src"
+# Each piece: the language of its block, its file, and the functions that are shown of it, or none for the whole file.
+PIECES = {
+    "tour_schema": ("cedar", "examples/tour/photos.cedarschema"),
+    "tour_policies": ("cedar", "examples/tour/share.cedar"),
+    "first_host": ("rust", f"{SAMPLES}/example.rt", "policy", "policies", "run"),
+    "store_host": ("rust", f"{SAMPLES}/store.rt", "accepted", "let_in", "serve"),
+}
+
+
+def shown(name, files):
+    language, path, *functions = PIECES[name]
+    if path not in files:
+        raise Gone(f"scripts/docs/pieces.py: there is no file {path}")
+    lines = files[path].splitlines()
+    if functions:
+        found = [(function, api_pages.function(files[path], function)) for function in functions]
+        gone = [function for function, lines in found if lines is None]
+        if gone:
+            raise Gone(f"scripts/docs/pieces.py: {path} has no function `{gone[0]}`")
+        lines = [line for _, lines in found for line in (*lines, "")][:-1]
+    return [f"```{language}", *lines, "```"]
+
+
+def makers():
+    return {name: partial(shown, name) for name in PIECES}
