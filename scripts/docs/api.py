@@ -21,7 +21,8 @@ def end_of(lines, at):
     """The last line of the item that begins here."""
     indent = re.match(" *", lines[at])[0]
     for end in range(at, len(lines)):
-        if lines[end].endswith("{}") or lines[end] in (f"{indent}}}", f"{indent}];") or (lines[end].endswith(";") and not has_body(lines[at:end])):
+        is_empty = lines[end].endswith("{}") and (end == at or not lines[end].startswith(f"{indent} "))
+        if is_empty or lines[end] in (f"{indent}}}", f"{indent}];") or (lines[end].endswith(";") and not has_body(lines[at:end])):
             return end
     raise ValueError(f"no end of {lines[at]}")
 
@@ -181,7 +182,7 @@ class Crate:
     """The modules of a library by their paths, which begin with its name; and what errors say, by their names."""
 
     def __init__(self, name, texts):
-        self.name, self.modules, self.messages = name, {}, files.messages(texts)
+        self.name, self.modules, self.messages, self.only = name, {}, files.messages(texts), []
         self.add((name,), f"crates/{name}/src", "lib", texts)
 
     def add(self, path, folder, stem, texts):
@@ -201,11 +202,12 @@ class Crate:
         return self.found(start[:-1], module.uses[name]) if name in module.uses else None
 
     def public(self, path=None):
-        """The paths of its public modules."""
+        """The paths of its public modules, only of those in `only` if it has any."""
         path = path or (self.name,)
         yield path
         for name, is_public in self.modules[path].modules.items():
-            if is_public and (*path, name) in self.modules:
+            is_shown = len(path) > 1 or not self.only or name in self.only
+            if is_public and is_shown and (*path, name) in self.modules:
                 yield from self.public((*path, name))
 
     def listed(self, path):

@@ -12,12 +12,12 @@ from docs.definitions import Gone
 TASKS = "scripts/docs/tasks.txt"
 OVERVIEW = "docs/API.md"
 FOLDER = "docs/api"
+HEADS = ("about: ", "caller: ", "modules: ")
 # Libraries that no host calls, besides those of tests.
 OTHERS = {
     "cedar_c": "the calls of `cedar.h`, for programs in other languages ([LANGUAGES](LANGUAGES.md))",
     "cedar_node_types": "laws on the types at the nodes of typed conditions ([THEOREMS](THEOREMS.md#each-node-of-a-typed-condition-has-a-type))",
     "cedar_examples": "examples of the promises, and two parts of a host to copy ([EMBEDDING](EMBEDDING.md))",
-    "cedar_findings": "what the program cedar-validate prints",
     "cedar_fixtures": "schemas and policies of the worked rows",
     "cedar_rows": "the worked rows",
 }
@@ -44,13 +44,14 @@ class Tasks:
     """What a library is for, a caller, and what an engineer does with it: each task, its call, and whether the overview shows it."""
 
     def __init__(self, name, lines):
-        said = dict(line.split(": ", 1) for line in lines if line.startswith(("about: ", "caller: ")))
+        said = dict(line.split(": ", 1) for line in lines if line.startswith(HEADS))
         if len(said) < 2 or len(said["caller"].split()) != 2:
             raise Gone(f"{TASKS}: `{name}` needs a line `about: ..`, and one `caller: FILE FUNCTION`")
         self.about, self.caller, self.calls = said["about"], said["caller"].split(), []
+        self.modules = said.get("modules", "").split()
         for line in lines:
             task, _, call = line.rpartition(": ")
-            if not line.startswith(("about: ", "caller: ")):
+            if not line.startswith(HEADS):
                 self.calls.append((task.removeprefix("* "), call, task.startswith("* ")))
 
 
@@ -196,7 +197,17 @@ def page(crate, tasks, files):
 def whole(files):
     """The pages of docs/api: the path and the text of each."""
     tasks = tasks_of(files)
-    return {f"{FOLDER}/{name}.md": page(api.Crate(name, files), tasks[name], files) for name in there(files)}
+    return {f"{FOLDER}/{name}.md": page(crate_of(name, tasks, files), tasks[name], files) for name in there(files)}
+
+
+def crate_of(name, tasks, files):
+    """A library, with the modules that its page shows: all, unless `modules:` names some."""
+    crate, only = api.Crate(name, files), tasks[name].modules
+    for module in only:
+        if not crate.modules[(name,)].modules.get(module):
+            raise Gone(f"{TASKS}: `{module}` is no public module of {name}")
+    crate.only = only
+    return crate
 
 
 # ---- the overview
@@ -212,10 +223,10 @@ def libraries(files):
 
 def first_tasks(files):
     """What docs/API.md shows: the tasks with a star."""
-    rows = []
+    rows, tasks = [], tasks_of(files)
     for name in there(files):
-        starred = [it for it in tasks_of(files)[name].calls if it[2]]
-        rows += index(api.Crate(name, files), starred, f"api/{name}.md")
+        starred = [it for it in tasks[name].calls if it[2]]
+        rows += index(crate_of(name, tasks, files), starred, f"api/{name}.md")
     if not rows:
         raise Gone(f"{TASKS} has no task with a star")
     return ["| You want to | Call |", "|---|---|", *rows]
