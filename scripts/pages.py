@@ -3,14 +3,15 @@
 
 In a page it stands between two lines, `<!-- made: NAME -->` and `<!-- end -->`, where NAME is one of MAKERS. The pages of docs/api
 are made whole. scripts/gate/check_text refuses a page that shows something else, a page that lacks a block of BLOCKS, and a name that
-is gone from the sources; with --check this script only says which pages those are.
+is gone from the sources; with --check this script only says which pages those are. It also says what scripts/docs/prose.py finds in
+the pages by hand: long sentences, and names, commands and counts that are not so.
 """
 import re
 import subprocess
 import sys
 from pathlib import Path
 
-from docs import api_pages, files as listings, pictures, pieces, promise, rows, trusted
+from docs import api_pages, files as listings, pictures, pieces, promise, prose, rows, trusted
 from docs.definitions import Gone
 
 TOP = Path(__file__).resolve().parent.parent
@@ -124,7 +125,7 @@ def main(words):
     if not words:
         write(files)
         files = sources()
-    found = list(stale(files))
+    found = [*stale(files), *prose.faults(files)]
     for path, _, why in found:
         print(f"{path}: {why}")
     return 1 if found else 0

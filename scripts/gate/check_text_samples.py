@@ -35,6 +35,11 @@ WHY = {
     "library": "is no library of crates.txt",
     "definition": "is no definition of",
     "block": "the page has no block",
+    "long": "words, and 30 are the most",
+    "nowhere": "occurs nowhere in the sources",
+    "gone file": "is no file and no folder",
+    "option": "no source has the option",
+    "run": "to run",
 }
 # What would be a fault in this file stands in pieces.
 PAPERS = "pap" + "ers"
@@ -135,6 +140,11 @@ FILES = [
     ("an overview without its block", "block", *changed("docs/API.md", "# The calls\n")),
     ("a page without its block", "block", *changed("docs/PROMISE.md", "# The promise\n")),
     ("a page of a definition that is gone", "definition", *note("<!-- made: promise_safe -->\n<!-- end -->")),
+    ("a long sentence", "long", *note("So " + "it goes on and on and on " * 4 + "until its end, as it were.")),
+    ("a name that is gone", "nowhere", *note("Call `same_again` for it.")),
+    ("a file that is gone", "gone file", *note("See `crates/demo/src/other.rt` for it.")),
+    ("an option that is gone", "option", *note("Say `--again` for it.")),
+    ("a command that is gone", "run", *note("```console\n$ scripts/again\n```", 3)),
     ("a picture of an older text", "made", {"docs/NOTE.md": "![It](walk.svg)\n", "docs/walk.svg": "<svg/>\n"}, "docs/walk.svg:1:"),
     ("a library's page that is gone", "made", API | {"docs/api/demo.md": None, "docs/API.md": None}, "docs/api/demo.md:1:"),
     ("an empty page of a library", "made", API | {"docs/api/demo.md": "", "docs/API.md": None}, "docs/api/demo.md:1:"),
@@ -181,7 +191,7 @@ def said_of(folder):
 def is_refused(folder, where, why):
     """Whether the check refuses the repository with one line, which says where and why."""
     status, lines = said_of(folder)
-    well = status == 1 and len(lines) == 2 and lines[0].startswith(where) and WHY[why] in lines[0] and lines[1] == "9 passed, 1 failed"
+    well = status == 1 and len(lines) == 2 and lines[0].startswith(where) and WHY[why] in lines[0] and lines[1] == "10 passed, 1 failed"
     return well, lines
 
 
@@ -190,11 +200,11 @@ def outcomes():
     with tempfile.TemporaryDirectory() as folder:
         repository(folder, GOOD)
         status, lines = said_of(folder)
-        yield "a good repository", status == 0 and lines == ["10 passed, 0 failed"], lines
+        yield "a good repository", status == 0 and lines == ["11 passed, 0 failed"], lines
     with tempfile.TemporaryDirectory() as folder:
         repository(folder, GOOD | API)
         status, lines = said_of(folder)
-        yield "a good page of a library", status == 0 and lines == ["10 passed, 0 failed"], lines
+        yield "a good page of a library", status == 0 and lines == ["11 passed, 0 failed"], lines
     for name, why, files, where in FILES:
         with tempfile.TemporaryDirectory() as folder:
             repository(folder, GOOD | files)
