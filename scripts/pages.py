@@ -22,6 +22,7 @@ MAKERS = {
     "crates": listings.crates,
     "codes": listings.codes,
     "functions": listings.functions,
+    "options": listings.options,
     "libraries": api_pages.libraries,
     "tasks": api_pages.first_tasks,
     **promise.makers(),

@@ -2,7 +2,7 @@
 """The crates, the files of the libraries, and the codes, as tables of their own comments.
 
 scripts/docs/files.py prints the files, which no page shows. scripts/pages.py writes the crates into docs/ARCHITECTURE.md, and the
-codes and the extension functions into docs/READING.md. The texts of errors, which the pages of docs/api show, are read here too.
+codes, the options and the extension functions into docs/READING.md. The texts of errors, which the pages of docs/api show, are read here too.
 """
 import re
 import sys
@@ -29,6 +29,8 @@ MESSAGE = re.compile(r"^impl fmt::Display for Message<'_, (\w+)> \{\n(.*?)\n\}$"
 WRITTEN = re.compile(r'(?:write!\(\s*f,\s*|write_str\()"([^"]*)"')
 LOCAL = re.compile(r"let (\w+) = [^;]*?self\.0\.(\w+)(\(\))?")
 CODES = "/src/codes.rt"
+OPTIONS = "crates/cedar_findings/src/options.rt"
+OPTION = re.compile(r'Word \{\s*names: &\[([^\]]*)\],\s*asks: Asks::(?:Flag|Value)\((?:Flag::\w+|ValueOption::\w+, (\S+))\),\s*about: "([^"]*)"')
 EXTENSIONS = "crates/cedar_extensions/src"
 METHOD = re.compile(r'Method \{\s*name: "(\w+)",\s*takes: &\[([^\]]*)\],\s*gives: ValueType::(\w+),\s*\}')
 
@@ -121,6 +123,18 @@ def codes(files):
     text = "".join(text for path, text in files.items() if path.endswith(CODES))
     written, meant = (dict(re.findall(r'Code::(\w+) => "([^"]*)"', body(function, text))) for function in ("text", "meaning"))
     return ["| Code | What it says |", "|---|---|", *(f"| `{written[kind]}` | {cell(meant.get(kind, ''))} |" for kind in written)]
+
+
+def options(files):
+    """What READING shows: the options of the command line, in the order of the help."""
+    text = files.get(OPTIONS, "")
+    values = {name: "`, `".join(re.findall(r'"(\w+)"', words)) for name, words in re.findall(r"const (\w+): Values = Values::OneOf\(&\[(.*?)\]\)", text)}
+    lines = ["| Option | What it does |", "|---|---|"]
+    for names, value, about in OPTION.findall(text):
+        word = {"": "", "Values::File": " FILE", "Values::Number": " N"}.get(value, " WORD")
+        shown = "`, `".join(re.findall(r'"(\S+)"', names)) + word
+        lines.append(f"| `{shown}` | {cell(about)}{f': `{values[value]}`' if value in values else ''} |")
+    return lines
 
 
 def functions(files):
