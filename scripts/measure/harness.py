@@ -3,7 +3,6 @@
 A script has a table of rows. At each size of a row a figure is measured and a line is printed; then limits are held against the
 figures. The last line counts the limits that hold and those that do not. Who imports this file can import those of scripts/ too.
 """
-import os
 import re
 import resource
 import shutil
@@ -32,6 +31,16 @@ def valgrind(tool, *options):
     if not shutil.which("valgrind"):
         sys.exit("valgrind is needed: apt-get install valgrind")
     return ["valgrind", f"--tool={tool}", *options]
+
+
+def most_memory(words, room, out):
+    """The most memory that a run of these words in a folder has at a time, in KiB."""
+    if not shutil.which("time"):
+        sys.exit("time is needed: apt-get install time")
+    # (what a process has at its beginning counts: with Python that is twenty megabytes, and with `time` it is one)
+    held = Path(room, "held")
+    subprocess.run(["time", "-q", "-f", "%M", "-o", held, *words], cwd=room, stdin=subprocess.DEVNULL, stdout=out)
+    return int(held.read_text(encoding="utf8"))
 
 
 class Bench:
@@ -77,9 +86,8 @@ class Bench:
     def held(self, *words):
         """The bytes of output of a run, which stands in the file `out`, and the most memory that it has at a time, in KiB."""
         with open(self.room / "out", "wb") as out:
-            child = subprocess.Popen([self.program, *words], cwd=self.room, stdin=subprocess.DEVNULL, stdout=out)
-            _, _, used = os.wait4(child.pid, 0)
-        return (self.room / "out").stat().st_size, used.ru_maxrss
+            most = most_memory([self.program, *words], self.room, out)
+        return (self.room / "out").stat().st_size, most
 
 
 @contextmanager

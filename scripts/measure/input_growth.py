@@ -28,7 +28,8 @@ declarations of many names. Each has a limit (docs/READING.md). At the limit pri
 beyond it, and for aliases that stand for each other, twice the text takes less than 2.5 times as many instructions.
 
 **Names that are looked for.** As many policies as a schema has types name one type each that it does not have, and a hint is the
-nearest. A scope lists all actions of a schema: typing looks at each of them in each environment, so there is no limit to hold.
+nearest, which a search of 20,000 characters finds or not. A scope lists all actions of a schema, and a policy has as many errors as
+there are actions: each of them is met in each environment, because a condition is typed once for each. These have no limit to hold.
 """
 import json
 import sys
@@ -260,6 +261,14 @@ def of_listed_actions(bench, count):
     return instructions(bench, bench.write("schema", schema), bench.write("policy", policy))
 
 
+def of_errors_in_environments(bench, count):
+    """The instructions of a policy with so many errors, in as many environments."""
+    attributes = ", ".join(f"a{number}?: Long" for number in range(count))
+    schema = f"entity P {{ {attributes} }};\n" + "".join(action(f"act{number}") for number in range(count))
+    policy = f"{SCOPE} when {{ [{', '.join(f'principal.a{number}' for number in range(count))}].isEmpty() }};\n"
+    return instructions(bench, bench.write("schema", schema), bench.write("policy", policy))
+
+
 OF_HASHES = "{size} {what}, of one hash: {figure[0]:,} instructions, {figure[1]:,} where they differ, {figure[2]:.2f} times as many"
 OF_GROUPS = "{size[0]}, {figure[0]:,} ancestors: {figure[1]:,} instructions, {figure[2]:,.0f} an ancestor"
 ROWS = (
@@ -286,6 +295,7 @@ ROWS = (
     *schemas("types by ids of one declaration", with_ids, 700),
     Row("policies with a wrong type, by as many types", (250, 500, 1000), of_unknown_types, "{size:,} {what}: {figure:,} instructions", ", {times:.2f} times as many"),
     Row("actions in a scope", (150, 300), of_listed_actions, "{size:,} {what}: {figure:,} instructions", ", {times:.2f} times as many"),
+    Row("errors in as many environments", (100, 200), of_errors_in_environments, "{size:,} {what}: {figure:,} instructions", ", {times:.2f} times as many"),
     Row("an empty list of entities", (1500, 3000), for_actions, "{what}, by {size:,} actions: {figure:,} instructions", times=2.6),
 )
 

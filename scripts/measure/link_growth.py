@@ -12,10 +12,11 @@ because a hundred faults are shown, and their places are found in one reading.
 
 **Places.** So many templates in one line, each with a finding behind its place and with a link, whose place is that of the template.
 
-**Copies.** One template of some 55 KB, and as many links as have 55 KB. Counted is the most memory of a run, which holds one copy
-of the template at a time. (A run on small files shows some 34 MB, because Python's own memory is among them.)
+**Copies.** One template of some 55 KB, and as many links as have 55 KB. Counted is the most memory beyond a run on the template
+alone, by the byte of both texts: a run holds one copy of the template at a time.
 
 **Links that are held.** Links without a template. Counted is the most memory beyond a run on no links, by the byte of the file.
+`time` tells the memory.
 """
 import json
 import sys
@@ -60,11 +61,14 @@ def of_places(bench, count):
 
 
 def of_copies(bench, size):
-    """The bytes of a template and of its links, which have so many bytes each, and the most memory in KiB."""
+    """The bytes of a template and of its links, which have so many bytes each, the most memory in KiB, and the bytes of it that the
+    links add, by the byte of both texts."""
     conditions = " && ".join(["principal.a"] * 300)
     policies = template(0, f" when {{ {conditions} }}" * (size // 4300))
     links = json.dumps([link(number, 0) for number in range(size // 80)], separators=(",", ":"))
-    return len(policies) + len(links), bench.held(*files(bench, policies, links))[1]
+    alone = bench.held(*files(bench, policies, "[]"))[1]
+    both, most = len(policies) + len(links), bench.held(*files(bench, policies, links))[1]
+    return both, most, (most - alone) * 1024 / both
 
 
 def of_held(bench, count):
@@ -86,7 +90,7 @@ ROWS = (
     Row("templates with ten links each", (125, 500, 2000), of_templates, OF_LINKS, GROWTH, times=4.6),
     Row("links without a template", (250, 1000, 4000), of_faults, OF_LINKS, GROWTH, times=4.6),
     Row("templates in one line with a finding and a link", (125, 500, 2000), of_places, OF_LINKS, GROWTH, times=4.6),
-    Row("a template and its links", (55_000,), of_copies, "{what}, {figure[0]:,} bytes: {figure[1]:,} KiB at most", most=60_000),
+    Row("a template and its links", (55_000,), of_copies, "{what}, {figure[0]:,} bytes: {figure[1]:,} KiB at most, {figure[2]:.1f} bytes a byte for links", most=40),
     Row("links without a template", (200_000,), of_held, "{size:,} {what}, {figure[0]:,} bytes: {figure[1]:,} KiB at most, {figure[2]:.1f} bytes a byte", most=40),
 )
 

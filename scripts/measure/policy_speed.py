@@ -12,7 +12,6 @@ many may take twice as much. Then 10,000 policies are validated, by the clock an
 program has at most. The figures are alike where reading is linear and one typed condition is alive at a time. It needs
 valgrind, and is no part of the gate.
 """
-import os
 import re
 import resource
 import subprocess
@@ -206,9 +205,9 @@ def main(words):
 def held(words):
     """The seconds that a run takes, and the most memory that it has at a time, in KiB."""
     began = time.monotonic()
-    run = subprocess.Popen(words, stdin=subprocess.DEVNULL, stdout=subprocess.DEVNULL)
-    _, _, used = os.wait4(run.pid, 0)
-    return time.monotonic() - began, used.ru_maxrss
+    with tempfile.TemporaryDirectory() as room:
+        most = harness.most_memory(words, room, subprocess.DEVNULL)
+    return time.monotonic() - began, most
 
 
 if __name__ == "__main__":
