@@ -292,7 +292,7 @@ def pipe_differs(program, room):
 def words_of_page():
     """The words of the table in docs/READING.md."""
     page = (TOP / "docs" / "READING.md").read_text(encoding="utf8")
-    for line in page[page.index("| Word |"):].split("\n\n")[0].splitlines()[2:]:
+    for line in page[page.index("| Option |"):].split("\n\n")[0].splitlines()[2:]:
         yield from re.findall(r"`(--?[a-zA-Z][a-z-]*)[ `]", line.split(" | ")[0])
 
 
