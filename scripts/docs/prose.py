@@ -1,7 +1,7 @@
 """What can be checked of the pages by hand: their sentences, and the names, options, commands and counts in them.
 
-A sentence has at most 30 words. A file that a page names is there; a name in backquotes and an option occur in the sources; a script
-that a block of commands runs is there; and the counts of COUNTS are counted.
+A sentence has at most 30 words. A file that a page names is there; an option, and a name in backquotes or in a block of code, occur in
+the sources; a script that a block of commands runs is there; and the counts of COUNTS are counted.
 """
 import re
 
@@ -13,6 +13,7 @@ SENTENCES = re.compile(r"(?<=[.:;?!])\s+")
 CODE = re.compile(r"(?<!`)`([^`\n]+)`(?!`)")
 NAME = re.compile(r"(?:[A-Za-z_]\w*(?:::|\.))*([a-z]\w*_\w+|[A-Z][a-z]\w*[A-Z]\w+)")
 FILE = re.compile(r"(?:crates|scripts|docs|examples|editors|bindings|mutations|cedar_\w+)/[\w./-]*\w")
+LONG_NAME = re.compile(r"[A-Za-z_]\w{3,}")
 OPTION = re.compile(r"(?<![\w-])--[a-z][a-z-]+")
 COMMAND = re.compile(r"^(?:\$ )?(scripts/[\w./]+)", re.M)
 PAGES_BY_HAND = re.compile(r"[^/]+\.md|docs/[^/]+\.md")
@@ -69,6 +70,15 @@ def wrong_names(text, names, words):
                 yield code.start(), f"no source has the option `{option}`"
 
 
+def wrong_code(text, words):
+    """The names of Rattle's code in blocks that are gone."""
+    for block in BLOCK.finditer(text):
+        if block["language"] == "rust":
+            for name in LONG_NAME.finditer(block["text"]):
+                if name[0] not in words:
+                    yield block.start("text") + name.start(), f"`{name[0]}` occurs nowhere in the sources"
+
+
 def wrong_commands(text, names):
     """The scripts that are to be run, and are gone."""
     for block in BLOCK.finditer(text):
@@ -115,5 +125,6 @@ def faults(files):
             by_hand = blank(text, BY_SCRIPT)
             prose = blank(by_hand, BLOCK)
             named = [] if path == OLD else wrong_names(prose, names, words)
-            for found in (long_sentences(prose), named, wrong_commands(by_hand, names), wrong_counts(prose, files)):
+            code = (wrong_code(by_hand, words), wrong_commands(by_hand, names))
+            for found in (long_sentences(prose), named, *code, wrong_counts(prose, files)):
                 yield from ((path, place, why) for place, why in found)

@@ -142,6 +142,7 @@ FILES = [
     ("a page of a definition that is gone", "definition", *note("<!-- made: promise_safe -->\n<!-- end -->")),
     ("a long sentence", "long", *note("So " + "it goes on and on and on " * 4 + "until its end, as it were.")),
     ("a name that is gone", "nowhere", *note("Call `same_again` for it.")),
+    ("a name that is gone, in a block", "nowhere", *note("```rust\nsame_again(1)\n```", 3)),
     ("a file that is gone", "gone file", *note("See `crates/demo/src/other.rt` for it.")),
     ("an option that is gone", "option", *note("Say `--again` for it.")),
     ("a command that is gone", "run", *note("```console\n$ scripts/again\n```", 3)),
