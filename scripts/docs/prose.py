@@ -1,7 +1,8 @@
 """What can be checked of the pages by hand: their sentences, and the names, options, commands and counts in them.
 
 A sentence has at most 30 words. A file that a page names is there; an option, and a name in backquotes or in a block of code, occur in
-the sources; a script that a block of commands runs is there; and the counts of COUNTS are counted.
+the sources; a script that a block of commands runs is there; the counts of COUNTS are counted, and
+the limits of LIMITS are those of the code.
 """
 import re
 
@@ -115,6 +116,32 @@ def wrong_counts(text, files):
                 yield found.start(), "these are {} of {}".format(*counted(what, files))
 
 
+# Sentences with a limit, and its constant in crates.
+LIMITS = [
+    ("docs/RULES.md", r"a visited part is deeper than (\S+) ", "cedar_typing/src/typecheck/expressions.rt", "MAX_TYPED_DEPTH"),
+    ("docs/EMBEDDING.md", r"would have to go deeper than (\S+)\.", "cedar_typing/src/typecheck/expressions.rt", "MAX_TYPED_DEPTH"),
+    ("docs/READING.md", r"\| (\S+) in policies \| nested nodes", "cedar_reading/src/cursor.rt", "MAX_GRAMMAR_STEPS"),
+    ("docs/READING.md", r"\| (\S+) in schemas \|", "cedar_reading/src/cursor.rt", "MAX_GRAMMAR_STEPS"),
+    ("docs/READING.md", r"\| (\S+) in JSON \|", "cedar_json/src/values.rt", "MAX_DEPTH"),
+    ("docs/READING.md", r"\| (\S+) \| descendants", "cedar_reading/src/schemas/descendants.rt", "MAX_DESCENDANTS"),
+    ("docs/READING.md", r"\| (\S+) \| parts of a namespace", "cedar_reading/src/schemas/blocks.rt", "MAX_NAMESPACE_PARTS"),
+    ("docs/READING.md", r"of more than (\S+) characters the first", "cedar_findings/src/lengths.rt", "MAX_IN_NAME"),
+    ("docs/EDITORS.md", r"within (\S+) bytes", "cedar_frames/src/heads.rt", "MAX_HEAD"),
+]
+
+
+def wrong_limits(path, text, files):
+    for page, sentence, source, name in LIMITS:
+        found = page == path and re.search(sentence, re.sub(r"\s", " ", text))
+        constant = re.search(rf"const {name}: \w+ = ([\d_]+)(?: << (\d+))?;", files.get(f"crates/{source}", ""))
+        if found and constant:
+            value = int(constant[1]) << int(constant[2] or 0)
+            if found[1].replace(",", "") != str(value):
+                yield found.start(), f"{name} of {source} is {value}"
+        elif page == path:
+            yield 0, f"the limit {name} of {source} is no longer there, or the sentence that has it"
+
+
 def faults(files):
     """The faults of all pages: the page, the place in its text, and why."""
     names = paths_of(files)
@@ -126,5 +153,5 @@ def faults(files):
             prose = blank(by_hand, BLOCK)
             named = [] if path == OLD else wrong_names(prose, names, words)
             code = (wrong_code(by_hand, words), wrong_commands(by_hand, names))
-            for found in (long_sentences(prose), named, *code, wrong_counts(prose, files)):
+            for found in (long_sentences(prose), named, *code, wrong_counts(prose, files), wrong_limits(path, prose, files)):
                 yield from ((path, place, why) for place, why in found)

@@ -40,6 +40,7 @@ WHY = {
     "gone file": "is no file and no folder",
     "option": "no source has the option",
     "run": "to run",
+    "limit": "is no longer there, or the sentence that has it",
 }
 # What would be a fault in this file stands in pieces.
 PAPERS = "pap" + "ers"
@@ -143,6 +144,7 @@ FILES = [
     ("a long sentence", "long", *note("So " + "it goes on and on and on " * 4 + "until its end, as it were.")),
     ("a name that is gone", "nowhere", *note("Call `same_again` for it.")),
     ("a name that is gone, in a block", "nowhere", *note("```rust\nsame_again(1)\n```", 3)),
+    ("a limit that is gone", "limit", *changed("docs/RULES.md", "# Rules\n")),
     ("a file that is gone", "gone file", *note("See `crates/demo/src/other.rt` for it.")),
     ("an option that is gone", "option", *note("Say `--again` for it.")),
     ("a command that is gone", "run", *note("```console\n$ scripts/again\n```", 3)),
