@@ -105,13 +105,7 @@ class Callers:
     def refusals(self):
         """Each growth of memory refused, of each call."""
         program = self.compiled("refused", "-fno-builtin", "-L", self.lib, "-lcedar", "-rdynamic")
-        condition = SCOPE + ' when {principal.on && principal has "again" && resource.no};'
-        calls = {
-            "validate": {"validationSettings": {"level": 1, "details": True}, "schema": SCHEMA, "policies": {"staticPolicies": {"x": condition}}},
-            "check-data": {"schema": SCHEMA, "entities": [{"uid": {"type": "P", "id": "x"}, "attrs": {"on": 1}, "parents": []}]},
-            "typed-conditions": {"schema": SCHEMA, "policy": SCOPE + " when {principal.again.on};"},
-        }
-        for name, call in calls.items():
+        for name, call in refused_calls().items():
             text = self.room / f"{name}.json"
             text.write_text(json.dumps(call), encoding="utf8")
             ran(program, name, text, env={**self.env, "GLIBC_TUNABLES": "glibc.malloc.tcache_count=0"})
@@ -134,14 +128,11 @@ class Callers:
     def applications(self):
         """Each application is answered as cedar-validate says it, and by another build byte for byte alike."""
         asked, files = [], []
-        for path in sorted(CASES.glob("apps_*.tsv")):
-            schema, cases = rows(path)
-            for number, (policies, text) in enumerate(sets_of([case["policy"] for case in cases])):
-                for mode, level in (("strict", None), ("permissive", None), ("strict", 0), ("strict", 1), ("permissive", 2)):
-                    call = {"validationSettings": {"mode": mode, "level": level, "details": True}, "schema": schema.read_text(encoding="utf8"), "policies": policies}
-                    asked.append((schema, text, mode, level))
-                    files.append(self.room / f"{path.stem}-{number}-{mode}-{level}.json")
-                    files[-1].write_text(json.dumps(call), encoding="utf8")
+        for schema, text, call in application_calls():
+            settings = call["validationSettings"]
+            asked.append((schema, text, settings["mode"], settings["level"]))
+            files.append(self.room / f"application-{len(files)}.json")
+            files[-1].write_text(json.dumps(call), encoding="utf8")
         answers = self.answers(self.lib, files)
         if self.other and self.answers(self.other / "lib", files) != answers:
             raise ValueError("a library that is proved does not answer as one that is not")
@@ -203,6 +194,26 @@ class Callers:
         """The test of the package, which finds the library by pkg-config."""
         need("go", "pkg-config")
         ran("go", "test", "./...", folder=BINDINGS / "go", env={**self.env, "GOCACHE": str(self.room / "go"), "GOFLAGS": "-mod=mod"})
+
+
+def refused_calls():
+    """A call of each kind, by its name, while memory is refused."""
+    condition = SCOPE + ' when {principal.on && principal has "again" && resource.no};'
+    return {
+        "validate": {"validationSettings": {"level": 1, "details": True}, "schema": SCHEMA, "policies": {"staticPolicies": {"x": condition}}},
+        "check-data": {"schema": SCHEMA, "entities": [{"uid": {"type": "P", "id": "x"}, "attrs": {"on": 1}, "parents": []}]},
+        "typed-conditions": {"schema": SCHEMA, "policy": SCOPE + " when {principal.again.on};"},
+    }
+
+
+def application_calls():
+    """The policies of each application at several settings: the file of the schema, the policies as a text, and the call."""
+    for path in sorted(CASES.glob("apps_*.tsv")):
+        schema, cases = rows(path)
+        for policies, text in sets_of([case["policy"] for case in cases]):
+            for mode, level in (("strict", None), ("permissive", None), ("strict", 0), ("strict", 1), ("permissive", 2)):
+                settings = {"mode": mode, "level": level, "details": True}
+                yield schema, text, {"validationSettings": settings, "schema": schema.read_text(encoding="utf8"), "policies": policies}
 
 
 def policies_of(condition, **settings):

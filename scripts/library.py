@@ -26,6 +26,8 @@ HEADER = TOP / "bindings" / "cedar.h"
 # What scripts/prove proves.
 GATE = TOP / "out" / "gate"
 TOOLS = ("cc", "ld", "objcopy", "ar")
+# The section that says of which build an object is.
+NOTE = ".cedar.build"
 CALLS = ("cedar_abi", "cedar_validate", "cedar_check_data", "cedar_typed_conditions")
 # A program that makes each call, so that the compiler keeps it.
 MAIN = """#![tactic(auto)]
@@ -69,9 +71,19 @@ def version():
 
 
 def run(*words):
+    """What a command prints."""
     done = subprocess.run([str(it) for it in words], stdin=subprocess.DEVNULL, capture_output=True, text=True)
     if done.returncode:
         raise NotBuilt(f"{Path(words[0]).name} ended with status {done.returncode}\n{(done.stdout + done.stderr)[-2000:]}")
+    return done.stdout
+
+
+def note_build(file, build):
+    """Puts the text of its build into an object or a program, where `readelf --string-dump=.cedar.build` shows it."""
+    with tempfile.NamedTemporaryFile() as held:
+        held.write(build.encode() + b"\0")
+        held.flush()
+        run("objcopy", "--add-section", f"{NOTE}={held.name}", file)
 
 
 def exported(text):
@@ -92,7 +104,7 @@ def exported(text):
 
 
 class Library(unproved.Build):
-    """The object of all calls, built without a proof."""
+    """The object of all calls and the module of LLVM of which it is made, built without a proof."""
 
     def sum(self):
         return unproved.hashlib.sha256((super().sum() + Path(__file__).read_text(encoding="utf8")).encode()).hexdigest()[:20]
@@ -109,14 +121,16 @@ class Library(unproved.Build):
             with open(room / "all.ll", encoding="utf8") as all_lines, open(room / "kept.ll", "w", encoding="utf8") as kept:
                 kept.writelines(exported(all_lines))
             unproved.run_tool(*clang, *unproved.FLAGS, self.level, "-x", "ir", room / "kept.ll", "-c", "-o", room / "calls.o")
+            unproved.run_tool(*clang, "-x", "ir", room / "kept.ll", "-c", "-emit-llvm", "-O0", "-o", room / "calls.bc")
             new = Path(tempfile.mkdtemp(prefix=f"new-{self.name}-", dir=unproved.KEPT))
-            shutil.copyfile(room / "calls.o", new / "calls.o")
+            for name in ("calls.o", "calls.bc"):
+                shutil.copyfile(room / name, new / name)
             new.rename(folder)
 
 
-def without_proof():
-    """Where the object of the calls stands, built without a proof."""
-    return Library("library", [CRATE], "main.rt", "-O1").folder() / "calls.o"
+def without_proof(name="calls.o"):
+    """Where the object of the calls stands, built without a proof, or the module of which it is made."""
+    return Library("library", [CRATE], "main.rt", "-O1").folder() / name
 
 
 def with_proof():
@@ -131,16 +145,16 @@ def over_gate():
     return over(GATE)
 
 
-def over(copy):
+def over(copy, target="x86_64-unknown-linux-gnu"):
     """The archive of the calls, once they are proved over the libraries that `rt ci` has left in a copy.
 
     `rt lib` takes none of these libraries, because the kit gives them no stamp: it would prove each of them a second time."""
     if not (copy / "crates.txt").is_file():
         raise NotBuilt(f"{copy} has no proved copy: run scripts/prove first")
-    built = copy / "crates" / CRATE / "out" / f"lib{CRATE}.a"
+    built = copy / "crates" / CRATE / "out" / f"lib{CRATE}-{target}.a"
     built.parent.mkdir(parents=True, exist_ok=True)
     built.unlink(missing_ok=True)
-    words = [unproved.kit() / "bin" / "rattle", "build", *words_of_kit(copy), "-o", built]
+    words = [unproved.kit() / "bin" / "rattle", "build", *words_of_kit(copy), "--target", target, "-o", built]
     if proved.run([str(it) for it in words], built.parent.parent) != 0 or not built.is_file():
         raise NotBuilt("the library was not proved, as said above")
     return built
@@ -179,12 +193,14 @@ def link(calls, room):
     return whole
 
 
-def put(calls, folder):
-    """Puts the library and what a program needs beside it into a folder."""
+def put(calls, folder, build=""):
+    """Puts the library and what a program needs beside it into a folder. Each file says of which build it is, where it is said."""
     for name in ("lib/pkgconfig", "include"):
         (folder / name).mkdir(parents=True, exist_ok=True)
     with tempfile.TemporaryDirectory(prefix="library-") as held:
         whole = link(calls, Path(held))
+        if build:
+            note_build(whole, build)
         shared, archive = Path(held, "cedar.so"), Path(held, "cedar.a")
         run("ar", "rcsD", archive, whole)
         safe = ["-Wl,-z,defs", "-Wl,-z,now", "-Wl,-z,relro", "-Wl,-z,noexecstack", "-Wl,--gc-sections"]
@@ -194,8 +210,10 @@ def put(calls, folder):
     name = folder / "lib" / "libcedar.so"
     name.unlink(missing_ok=True)
     name.symlink_to(f"libcedar.so.{abi()}")
-    shutil.copyfile(HEADER, folder / "include" / "cedar.h")
-    (folder / "lib" / "pkgconfig" / "cedar.pc").write_text(PACKAGE.format(version=version()), encoding="utf8")
+    said = f"/* {build} */\n" if build else ""
+    (folder / "include" / "cedar.h").write_text(HEADER.read_text(encoding="utf8") + said, encoding="utf8")
+    package = PACKAGE.format(version=version()) + (f"# {build}\n" if build else "")
+    (folder / "lib" / "pkgconfig" / "cedar.pc").write_text(package, encoding="utf8")
 
 
 # How the calls are built, by the first word.
