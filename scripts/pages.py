@@ -11,7 +11,7 @@ import subprocess
 import sys
 from pathlib import Path
 
-from docs import api_pages, files as listings, pictures, pieces, promise, prose, rows, trusted
+from docs import api_pages, files as listings, laws, pictures, pieces, promise, prose, rows, trusted
 from docs.definitions import Gone
 
 TOP = Path(__file__).resolve().parent.parent
@@ -28,6 +28,7 @@ MAKERS = {
     **promise.makers(),
     **promise.FORM_MAKERS,
     **pieces.makers(),
+    **laws.makers(),
 }
 # The blocks that a page must have.
 BLOCKS = {
