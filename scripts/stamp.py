@@ -1,5 +1,6 @@
 """The text by which cedar-validate says of which build it is. A script puts it into the program once it is linked, because
 the sources must not change with each commit: each proof would be made again."""
+import re
 import subprocess
 from pathlib import Path
 
@@ -7,6 +8,8 @@ TOP = Path(__file__).resolve().parent.parent
 # What `BUILD` of crates/cedar_validate/src/version.rt begins with, and how long it is.
 MARK = b"of a build without a stamp"
 LENGTH = 120
+# What a program holds there: the mark, or a text of `text`.
+STANDS = re.compile(re.escape(MARK) + rb"|commit [^\0,]{1,50}, [^\0,]{1,50}, (?:not )?proved")
 # What stands for what a command did not tell.
 UNSEEN = "?"
 
@@ -32,9 +35,10 @@ def text(is_proved):
 
 
 def put(program, text):
-    """Puts a text into a program, in the place of the one that the compiler wrote."""
-    old, new = MARK.ljust(LENGTH), text.encode().ljust(LENGTH)
-    whole = Path(program).read_bytes()
-    if len(new) != LENGTH or whole.count(old) != 1:
-        raise NotStamped(f"{program} holds the text of its build {whole.count(old)} times, and {len(new)} of {LENGTH} bytes are to go there")
-    Path(program).write_bytes(whole.replace(old, new))
+    """Puts a text into a program, in the place of the one that the compiler wrote, or that an earlier call put there."""
+    new, whole = text.encode().ljust(LENGTH), Path(program).read_bytes()
+    old = [it for it in STANDS.finditer(whole) if not whole[it.end() : it.start() + LENGTH].strip(b" ")]
+    if len(new) != LENGTH or len(old) != 1:
+        raise NotStamped(f"{program} holds the text of its build {len(old)} times, and {len(new)} of {LENGTH} bytes are to go there")
+    at = old[0].start()
+    Path(program).write_bytes(whole[:at] + new + whole[at + LENGTH :])
