@@ -11,7 +11,7 @@ import subprocess
 import sys
 from pathlib import Path
 
-from docs import api_pages, files as listings, laws, pictures, pieces, promise, prose, rows, trusted
+from docs import api_pages, commands, files as listings, laws, pictures, pieces, promise, prose, rows, trusted
 from docs.definitions import Gone
 
 TOP = Path(__file__).resolve().parent.parent
@@ -29,6 +29,7 @@ MAKERS = {
     **promise.FORM_MAKERS,
     **pieces.makers(),
     **laws.makers(),
+    **commands.makers(),
 }
 # The blocks that a page must have.
 BLOCKS = {
