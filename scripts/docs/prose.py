@@ -12,7 +12,7 @@ BLOCK = re.compile(r"^ *(?P<fence>`{3,})(?P<language>\w*)\n(?P<text>.*?)^ *(?P=f
 PARTS = re.compile(r"\n\s*\n|\n(?=\s*[-*|] |\s*\d+\. )")
 SENTENCES = re.compile(r"(?<=[.:;?!])\s+")
 CODE = re.compile(r"(?<!`)`([^`\n]+)`(?!`)")
-NAME = re.compile(r"(?:[A-Za-z_]\w*(?:::|\.))*([a-z]\w*_\w+|[A-Z][a-z]\w*[A-Z]\w+)")
+NAME = re.compile(r"[a-z]\w*_\w+|[A-Z][a-z]\w*[A-Z]\w+|[A-Za-z_]\w*(?:(?:::|\.)[A-Za-z_]\w*)+")
 FILE = re.compile(r"(?:crates|scripts|docs|examples|editors|bindings|mutations|cedar_\w+)/[\w./-]*\w")
 LONG_NAME = re.compile(r"[A-Za-z_]\w{3,}")
 OPTION = re.compile(r"(?<![\w-])--[a-z][a-z-]+")
@@ -20,7 +20,7 @@ COMMAND = re.compile(r"^(?:\$ )?(scripts/[\w./]+)", re.M)
 PAGES_BY_HAND = re.compile(r"[^/]+\.md|docs/[^/]+\.md")
 # A page of names that are gone, and names of Cedar and of the system.
 OLD = "CHANGELOG.md"
-OUTSIDE = {"validate_json_str", "--cflags"}
+OUTSIDE = {"cedar_policy", "ffi", "validate_json_str", "toml", "--cflags"}
 
 
 def blank(text, pattern):
@@ -64,8 +64,9 @@ def wrong_names(text, names, words):
         path, name = FILE.fullmatch(shown.split("#")[0]), NAME.fullmatch(shown)
         if path and not is_there(path[0], names):
             yield code.start(), f"`{path[0]}` is no file and no folder"
-        elif name and not path and name[1] not in words:
-            yield code.start(), f"`{name[1]}` occurs nowhere in the sources"
+        elif name and not path:
+            gone = [part for part in re.split(r"::|\.", shown) if part not in words]
+            yield from ((code.start(), f"`{part}` occurs nowhere in the sources") for part in gone[:1])
         for option in OPTION.findall(shown):
             if option.strip("-").replace("-", "_") not in words and option not in words:
                 yield code.start(), f"no source has the option `{option}`"
