@@ -4,7 +4,7 @@
 PROGRAM is cedar_language_server, by default as it is built without a proof. A client sends messages in each phase, frames that
 no editor sends, texts with characters of one to four bytes, edits of ranges, and 10,000 changes. Each editor that the machine has is
 set up by the blocks of docs/EDITORS.md (gate/editors.py), and does what a person does, by a session of examples/editors. What
-Neovim sees must be the transcript in docs/EDITORS.md, where --record writes it. An editor that is missing is skipped, which is said.
+Neovim sees must be examples/editors/neovim.txt, which --record writes, and docs/EDITORS.md shows. An editor that is missing is skipped, which is said.
 The last line counts what went well and what did not.
 """
 import re

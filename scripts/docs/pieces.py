@@ -9,6 +9,7 @@ SAMPLES = "crates/cedar_samples/src"
 PIECES = {
     "tour_schema": ("cedar", "examples/tour/photos.cedarschema"),
     "tour_policies": ("cedar", "examples/tour/share.cedar"),
+    "neovim_session": ("text", "examples/editors/neovim.txt"),
     "first_host": ("rust", f"{SAMPLES}/example.rt", "policy", "policies", "run"),
     "store_host": ("rust", f"{SAMPLES}/store.rt", "accepted", "let_in", "serve"),
 }
@@ -25,7 +26,8 @@ def shown(name, files):
         if gone:
             raise Gone(f"scripts/docs/pieces.py: {path} has no function `{gone[0]}`")
         lines = [line for _, lines in found for line in (*lines, "")][:-1]
-    return [f"```{language}", *lines, "```"]
+    fence = "````" if any(line.startswith("```") for line in lines) else "```"
+    return [f"{fence}{language}", *lines, fence]
 
 
 def makers():

@@ -7,7 +7,7 @@ the limits of LIMITS are those of the code.
 import re
 
 MOST = 30
-BY_SCRIPT = re.compile(r"<!-- (?:made|transcript).*?<!-- end.*?-->", re.S)
+BY_SCRIPT = re.compile(r"<!-- made: .*?<!-- end -->", re.S)
 BLOCK = re.compile(r"^ *(?P<fence>`{3,})(?P<language>\w*)\n(?P<text>.*?)^ *(?P=fence)$", re.M | re.S)
 PARTS = re.compile(r"\n\s*\n|\n(?=\s*[-*|] |\s*\d+\. )")
 SENTENCES = re.compile(r"(?<=[.:;?!])\s+")

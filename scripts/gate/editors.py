@@ -10,7 +10,8 @@ import unproved
 TOP = Path(__file__).resolve().parents[2]
 EXAMPLES = TOP / "examples" / "editors"
 PAGE = TOP / "docs" / "EDITORS.md"
-TRANSCRIPT = re.compile(r"(<!-- transcript of scripts/editor_cases.py -->\n\n````text\n).*?(````\n\n<!-- end of the transcript -->)", re.S)
+# What Neovim shows, which scripts/pages.py puts into the page.
+TRANSCRIPT = EXAMPLES / "neovim.txt"
 SECONDS = 600
 # The name of a clone in the page.
 CLONE = "carrotknife"
@@ -114,11 +115,9 @@ def neovim(counts, program, room, is_recorded):
     home.put(".config/nvim/init.lua", block("Neovim", "lua"))
     done = home.run("nvim", "--headless", "-i", "NONE", "-c", f"luafile {EXAMPLES / 'session.lua'}", "-c", "qall!")
     seen = done.stdout.replace("\r\n", "\n")
-    page = PAGE.read_text(encoding="utf8")
     if is_recorded:
-        PAGE.write_text(TRANSCRIPT.sub(lambda it: it[1] + seen + it[2], page), encoding="utf8")
-    wanted = TRANSCRIPT.search(page)
-    counts.want("the transcript of docs/EDITORS.md", is_recorded or wanted and wanted[0] == wanted[1] + seen + wanted[2], seen + done.stderr)
+        TRANSCRIPT.write_text(seen, encoding="utf8")
+    counts.want("the transcript examples/editors/neovim.txt", TRANSCRIPT.read_text(encoding="utf8") == seen, seen + done.stderr)
     counts.want("Neovim has one server", "-- servers for the policies and the schema: 1\n" in seen, seen + done.stderr)
     counts.want("Neovim stops the server", seen.endswith("stopped: true\n"), seen + done.stderr)
 
