@@ -25,6 +25,9 @@ SECONDS = 600
 # What a thread of Java has.
 STACK = 1024
 FLAGS = ["-O1", "-Wall", "-Wextra", "-Werror"]
+# Where Debian keeps crates, and what lets cargo take them.
+DEBIAN = Path("/usr/share/cargo/registry")
+CRATES_OF_DEBIAN = ["--features", "serde", "--config", 'source.crates-io.replace-with="debian"', "--config", f'source.debian.directory="{DEBIAN}"']
 SCHEMA = "entity P{again:P,on:Bool};action go appliesTo{principal:P,resource:P};"
 SCOPE = "permit(principal,action,resource)"
 SCOPE_JSON = {"effect": "permit", **{it: {"op": "All"} for it in ("principal", "action", "resource")}}
@@ -164,10 +167,17 @@ class Callers:
         return sorted(found, key=repr)
 
     def rust(self):
-        """The test of the crate, which finds the library by pkg-config."""
+        """The tests of the crate, which finds the library by pkg-config; with its feature, where the machine has the crates of Debian."""
         need("cargo", "pkg-config")
-        target = self.room / "rust"
-        ran("cargo", "test", "--offline", "--quiet", folder=BINDINGS / "rust", env={**self.env, "CARGO_TARGET_DIR": str(target)})
+        crate, words = self.room / "rust", CRATES_OF_DEBIAN
+        shutil.copytree(BINDINGS / "rust", crate, ignore=shutil.ignore_patterns("target"))
+        if not any(DEBIAN.glob("serde_json-*")):
+            print("rust: the feature serde is skipped, as the machine has no librust-serde-json-dev", flush=True)
+            # (cargo looks for each dependency, wanted or not)
+            manifest = crate / "Cargo.toml"
+            manifest.write_text(manifest.read_text(encoding="utf8").split("\n[features]")[0] + "\n", encoding="utf8")
+            words = []
+        ran("cargo", "test", "--offline", "--quiet", *words, folder=crate, env={**self.env, "CARGO_TARGET_DIR": str(self.room / "target")})
 
     def node(self):
         """The test of the addon."""
@@ -176,7 +186,7 @@ class Callers:
         if headers is None:
             raise Missing("node_api.h")
         addon = self.room / "cedar.node"
-        ran("cc", *FLAGS, "-shared", "-fPIC", f"-I{headers}", BINDINGS / "node" / "cedar.c", "-o", addon, "-L", self.lib, "-lcedar")
+        ran("cc", *FLAGS, "-shared", "-fPIC", f"-I{headers}", *sorted((BINDINGS / "node").glob("*.c")), "-o", addon, "-L", self.lib, "-lcedar")
         ran("node", "--expose-gc", BINDINGS / "node" / "test.js", env={**self.env, "CEDAR_ADDON": str(addon)})
 
     def java(self):
@@ -187,8 +197,8 @@ class Callers:
             raise Missing("jni.h")
         made = self.room / "libcedar_jni.so"
         ran("cc", *FLAGS, "-shared", "-fPIC", f"-I{home / 'include'}", f"-I{home / 'include' / 'linux'}", BINDINGS / "java" / "cedar_jni.c", "-o", made, "-L", self.lib, "-lcedar")
-        ran("javac", "-d", self.room, *sorted((BINDINGS / "java").glob("*.java")))
-        ran("java", "-Xmx256m", f"-Djava.library.path={self.room}", "-cp", self.room, "CedarTest", env=self.env)
+        ran("javac", "-encoding", "UTF-8", "-d", self.room, *sorted((BINDINGS / "java").rglob("*.java")))
+        ran("java", "-Xmx256m", f"-Djava.library.path={self.room}", "-cp", self.room, "carrotknife.cedar.CedarTest", env=self.env)
 
     def go(self):
         """The test of the package, which finds the library by pkg-config."""

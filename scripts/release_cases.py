@@ -135,9 +135,9 @@ def in_root(counts, suite, folder, room):
     loaded = ran("chroot", root, "ldd", "/release/bin/cedar-validate", "/release/bin/cedar-language-server", "/release/lib/libcedar.so").stdout
     needs = set(re.findall(r"^\s+(\S+?)(?: => .*)? \(", loaded, re.M))
     counts.want(f"what is loaded in Debian {version}", needs <= {"linux-vdso.so.1", "libc.so.6", "/lib64/ld-linux-x86-64.so.2"} and "libc.so.6" in needs, loaded)
-    sums = ran("chroot", root, "sh", "-c", "cd /release && sha256sum --check --quiet SHA256SUMS", env={"PATH": "/usr/bin:/bin"})
+    sums = ran("chroot", root, "sh", "-c", "cd /release && sha256sum --check --quiet SHA256SUMS", env={"PATH": "/usr/sbin:/usr/bin:/sbin:/bin"})
     counts.want(f"the sums in Debian {version}", sums.returncode == 0, sums.stdout)
-    done = ran("chroot", root, "sh", "-c", f"cd /release && {command(folder)}", env={"PATH": "/usr/bin:/bin"})
+    done = ran("chroot", root, "sh", "-c", f"cd /release && {command(folder)}", env={"PATH": "/usr/sbin:/usr/bin:/sbin:/bin"})
     counts.want(f"README's command in Debian {version}", (done.stdout, done.returncode) == (first_example(), 1), done.stdout)
     print(f"Debian {version} ({suite}) runs it", flush=True)
 

@@ -4,8 +4,9 @@
 The parts are `texts`, what no compiler reads; `pieces`, the pieces of examples/borrows; `tests`, each #[test]; `programs`,
 each program on its data, as `rt ci` runs it, and `product`, cedar-validate likewise, and each of its words and pairs; `refused`, calls and rows while memory is
 refused; `queries`, where-clauses in SQLite; `applications`, all that cedar-validate says of whole applications and of odd
-texts; `callers`, the C library called from other languages; `page`, the page in a browser; `release`, a release as a
-user has it; and `editors`, the language server as editors use it. Languages, browsers and editors that the machine has not are skipped.
+texts; `callers`, the C library called from other languages; `page`, the page in a browser; `release` and `packages`, a
+release and its packages as users have them; and `editors`, the language server as editors use it. Languages, browsers and
+editors that the machine has not are skipped.
 Without words all run, side by side where processors are free.
 
 The programs are built without a proof (scripts/unproved.py) and kept, so that a second run builds nothing where no text
@@ -173,9 +174,13 @@ def release():
     return of_skipping_script("release_cases.py")
 
 
+def packages():
+    return of_skipping_script("packages_cases.py")
+
+
 # The parts in the order in which they begin, in four lines side by side. A line begins with a build; those that wait for it
 # stand behind it.
-LINES = ((programs, refused, queries, editors), (tests, texts), (product, applications, pieces), (callers, page, release))
+LINES = ((programs, refused, queries, editors), (tests, texts), (product, applications, pieces), (callers, page, release, packages))
 PARTS = {part.__name__: part for line in LINES for part in line}
 
 

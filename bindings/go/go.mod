@@ -1,3 +1,3 @@
-module cedar
+module carrotknife.example/cedar
 
-go 1.20
+go 1.19

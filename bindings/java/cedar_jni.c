@@ -11,12 +11,12 @@ static jbyteArray fail(JNIEnv *env, const char *name, const char *why) {
     return 0;
 }
 
-JNIEXPORT jint JNICALL Java_Cedar_abi(JNIEnv *env, jclass of) {
+JNIEXPORT jint JNICALL Java_carrotknife_cedar_Cedar_abi(JNIEnv *env, jclass of) {
     (void)env, (void)of;
     return (jint)cedar_abi();
 }
 
-JNIEXPORT jbyteArray JNICALL Java_Cedar_answer(JNIEnv *env, jclass of, jint number, jbyteArray given) {
+JNIEXPORT jbyteArray JNICALL Java_carrotknife_cedar_Cedar_answer(JNIEnv *env, jclass of, jint number, jbyteArray given) {
     static Call *const calls[] = {cedar_validate, cedar_check_data, cedar_typed_conditions};
     size_t size = (size_t)(*env)->GetArrayLength(env, given), needed;
     uint32_t status = CEDAR_TOO_SMALL;

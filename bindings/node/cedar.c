@@ -1,9 +1,6 @@
-/* The addon: cc -shared -fPIC -I/usr/include/node cedar.c -o cedar.node -lcedar */
-#include "../cedar.h"
-#include <node_api.h>
+/* The addon: cc -shared -fPIC -I/usr/include/node cedar.c later.c -o cedar.node -lcedar */
+#include "later.h"
 #include <stdlib.h>
-
-typedef uint32_t Call(const uint8_t *, size_t, uint8_t *, size_t, size_t *);
 
 static napi_value fail(napi_env env, const char *why) {
     napi_throw_error(env, 0, why);
@@ -31,13 +28,15 @@ static napi_value answer(napi_env env, napi_callback_info info) {
 }
 
 NAPI_MODULE_INIT() {
-    static const struct { const char *name; Call *call; } calls[] = {
-        {"validate", cedar_validate}, {"checkData", cedar_check_data}, {"typedConditions", cedar_typed_conditions}};
+    static const struct { const char *name, *later; Call *call; } calls[] = {{"validate", "validateLater", cedar_validate},
+        {"checkData", "checkDataLater", cedar_check_data}, {"typedConditions", "typedConditionsLater", cedar_typed_conditions}};
     if (cedar_abi() != CEDAR_ABI) return fail(env, "libcedar has another number of calls");
     for (size_t i = 0; i < sizeof calls / sizeof *calls; i++) {
         napi_value it;
         if (napi_create_function(env, calls[i].name, NAPI_AUTO_LENGTH, answer, (void *)calls[i].call, &it) != napi_ok
-            || napi_set_named_property(env, exports, calls[i].name, it) != napi_ok) return fail(env, "the addon failed");
+            || napi_set_named_property(env, exports, calls[i].name, it) != napi_ok
+            || napi_create_function(env, calls[i].later, NAPI_AUTO_LENGTH, answer_later, (void *)calls[i].call, &it) != napi_ok
+            || napi_set_named_property(env, exports, calls[i].later, it) != napi_ok) return fail(env, "the addon failed");
     }
     return exports;
 }

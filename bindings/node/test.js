@@ -1,4 +1,4 @@
-// The calls from Node: answers, odd texts, memory, and four workers.
+// The calls from Node: answers, odd texts, promises, memory, and four workers.
 const assert = require("assert"), { Worker, isMainThread } = require("worker_threads");
 const cedar = require("./index.js");
 
@@ -23,6 +23,19 @@ function oddTexts() {
     assert.throws(() => cedar.native.validate("x"), /Buffer/);
 }
 
+async function promises() {
+    let turns = 0;
+    const ticks = setInterval(() => turns++, 0), calls = Array.from({ length: 200 }, () => cedar.promises.validate(call));
+    for (const answer of await Promise.all(calls)) assert.strictEqual(JSON.stringify(answer), wanted);
+    clearInterval(ticks);
+    assert(turns > 0);
+    await assert.rejects(cedar.native.validateLater(Buffer.from([0xff])), /UTF-8/);
+    assert.throws(() => cedar.native.validateLater("x"), /Buffer/);
+    assert.strictEqual((await cedar.promises.checkData("")).type, "failure");
+    const { conditions } = await cedar.promises.typedConditions({ schema, policy: `${scope};` });
+    assert.strictEqual(conditions.length, 1);
+}
+
 function memory() {
     run(CALLS / 2);
     gc();
@@ -36,6 +49,7 @@ if (isMainThread) {
     memory();
     answers();
     oddTexts();
+    promises().then(() => 0, (error) => { throw error; });
     for (let i = 0; i < 4; i++) new Worker(__filename).on("exit", (code) => assert.strictEqual(code, 0));
 } else {
     run(CALLS / 4);

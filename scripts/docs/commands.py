@@ -7,7 +7,7 @@ from docs.definitions import Gone
 LISTS = {
     "checks": [
         "gate/check_text", "gate/gate_samples.py", "gate/refusal_samples.py", "gate/borrows.py", "gate/word_cases.py", "against_cedar",
-        "gate/application_cases.py", "refused.py", "where_cases.py", "caller_cases.py", "release_cases.py",
+        "gate/application_cases.py", "refused.py", "where_cases.py", "caller_cases.py", "release_cases.py", "packages_cases.py",
         "web_cases.py", "editor_cases.py", "gate/editor_texts.py",
     ],
     "measurements": [

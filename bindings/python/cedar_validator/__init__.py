@@ -1,6 +1,7 @@
 """The validator of Cedar policies, by the C library libcedar.
 
-The library is the file that CEDAR_LIBRARY names, else the one that the system's linker finds. Each function takes a call, a mapping
+The library is the file that CEDAR_LIBRARY names, else the one in this package, else the one that the system's linker finds. Each
+function takes a call, a mapping
 or a text of JSON, and answers what the answer's text says. A call that cannot be answered raises MemoryError.
 """
 from __future__ import annotations
@@ -8,6 +9,7 @@ from __future__ import annotations
 import ctypes
 import json
 import os
+from pathlib import Path
 from typing import Any, Literal, Mapping, NotRequired, TypedDict, Union, cast
 
 ABI = 1
@@ -78,7 +80,9 @@ class Conditions(TypedDict):
 
 Call = Union[Mapping[str, Any], str]
 
-_library = ctypes.CDLL(os.environ.get("CEDAR_LIBRARY", f"libcedar.so.{ABI}"))
+_name = f"libcedar.so.{ABI}"
+_own = Path(__file__).with_name(_name)
+_library = ctypes.CDLL(os.environ.get("CEDAR_LIBRARY") or (str(_own) if _own.exists() else _name))
 _library.cedar_abi.restype = ctypes.c_uint32
 if _library.cedar_abi() != ABI:
     raise ImportError(f"libcedar has the number {_library.cedar_abi()} of calls, where {ABI} is wanted")

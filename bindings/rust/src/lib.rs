@@ -1,5 +1,9 @@
-//! The validator of Cedar policies, by the C library libcedar. Each function takes a call, a text of JSON, and answers one.
+//! The validator of Cedar policies, by the C library libcedar. Each function takes a call, a text of JSON, and answers one. With
+//! the feature `serde`, `types` has calls and answers as types.
 use std::fmt;
+
+#[cfg(feature = "serde")]
+pub mod types;
 
 /// The number of calls that this crate knows.
 const ABI: u32 = 1;

@@ -1,4 +1,11 @@
+package carrotknife.cedar;
+
+import java.io.IOException;
+import java.io.InputStream;
 import java.nio.charset.StandardCharsets;
+import java.nio.file.Files;
+import java.nio.file.Path;
+import java.nio.file.StandardCopyOption;
 
 /** The validator of Cedar policies, by the C library libcedar. Each method takes a call, a text of JSON, and answers one. */
 public final class Cedar {
@@ -6,11 +13,30 @@ public final class Cedar {
     private static final int ABI = 1;
 
     static {
-        System.loadLibrary("cedar_jni");
+        load();
         if (abi() != ABI) throw new ExceptionInInitializerError("libcedar has the number " + abi() + " of calls, where " + ABI + " is wanted");
     }
 
     private Cedar() { }
+
+    /** Loads the library that lies in the jar beside this class, and else that of {@code java.library.path}. */
+    private static void load() {
+        try (InputStream inJar = Cedar.class.getResourceAsStream("libcedar_jni.so")) {
+            if (inJar == null) {
+                System.loadLibrary("cedar_jni");
+                return;
+            }
+            Path file = Files.createTempFile("libcedar_jni", ".so");
+            try {
+                Files.copy(inJar, file, StandardCopyOption.REPLACE_EXISTING);
+                System.load(file.toString());
+            } finally {
+                Files.delete(file);
+            }
+        } catch (IOException error) {
+            throw new ExceptionInInitializerError(error);
+        }
+    }
 
     private static native int abi();
 

@@ -1,7 +1,9 @@
+package carrotknife.cedar;
+
 import java.nio.file.Files;
 import java.nio.file.Path;
 
-/** The calls from Java: answers, odd texts, memory, four threads, and a deep condition on a thread of 1 MiB. */
+/** The calls from Java: answers, typed calls, odd texts, memory, four threads, and a deep condition on a thread of 1 MiB. */
 public final class CedarTest {
     static final String SCHEMA = "{\"schema\":\"entity U{a?:Long};action v appliesTo{principal:U,resource:U};\",";
     static final String CALL = SCHEMA + "\"policies\":{\"staticPolicies\":{\"x\":\"permit(principal,action,resource) when {principal.a == 1};\"}}}";
@@ -24,6 +26,13 @@ public final class CedarTest {
         check(Cedar.checkData(SCHEMA + "\"entities\":[]}").contains("\"conforms\":true"));
         String policy = "\"policy\":\"permit(principal,action,resource) when {principal == resource};\"}";
         check(Cedar.typedConditions(SCHEMA + policy).contains("{\"==\":{\"left\":{\"Var\":\"principal\"},\"right\":{\"Var\":\"resource\"}}}"));
+    }
+
+    static void typed(String wanted) {
+        Validation call = new Validation("entity U{a?:Long};action v appliesTo{principal:U,resource:U};").policy("x", "permit(principal,action,resource) when {principal.a == 1};");
+        check(call.answer().equals(wanted));
+        String answer = call.template("\"é\\", "permit(principal == ?principal,action,resource) when {resource.a == 1};").mode(Validation.Mode.PERMISSIVE).level(0).details().answer();
+        check(answer.contains("{\"policyId\":\"\\\"é\\\\\",\"accepted\":false"));
     }
 
     static void oddTexts() {
@@ -51,6 +60,7 @@ public final class CedarTest {
     public static void main(String[] none) throws Exception {
         String wanted = Cedar.validate(CALL);
         answers(wanted);
+        typed(wanted);
         oddTexts();
         run(CALLS / 2, wanted);
         System.gc();
