@@ -145,16 +145,16 @@ def over_gate():
     return over(GATE)
 
 
-def over(copy, target="x86_64-unknown-linux-gnu"):
+def over(copy):
     """The archive of the calls, once they are proved over the libraries that `rt ci` has left in a copy.
 
     `rt lib` takes none of these libraries, because the kit gives them no stamp: it would prove each of them a second time."""
     if not (copy / "crates.txt").is_file():
         raise NotBuilt(f"{copy} has no proved copy: run scripts/prove first")
-    built = copy / "crates" / CRATE / "out" / f"lib{CRATE}-{target}.a"
+    built = copy / "crates" / CRATE / "out" / f"lib{CRATE}.a"
     built.parent.mkdir(parents=True, exist_ok=True)
     built.unlink(missing_ok=True)
-    words = [unproved.kit() / "bin" / "rattle", "build", *words_of_kit(copy), "--target", target, "-o", built]
+    words = [unproved.kit() / "bin" / "rattle", "build", *words_of_kit(copy), "-o", built]
     if proved.run([str(it) for it in words], built.parent.parent) != 0 or not built.is_file():
         raise NotBuilt("the library was not proved, as said above")
     return built

@@ -2,8 +2,9 @@
 """Builds the page for browsers: scripts/web.py [--gate] DIR, and then for example python3 -m http.server --directory DIR.
 
 DIR gets the files of web/, the examples of the tour, and cedar.wasm.gz: libcedar as WebAssembly with a 64-bit memory, made of the
-very module that the library is made of, with the memory of web/memory.c. It is built without a proof, or with --gate by a proof
-of crates/cedar_c for this target, over the libraries that scripts/prove has left. build.json says which, and the page shows it.
+very module of LLVM that the library is made of, with the memory of web/memory.c. It is built without a proof, or with --gate by a
+proof of crates/cedar_c over the libraries that scripts/prove has left: the kit hands the module to clang, where it is caught.
+build.json says which, and the page shows it. No proof covers clang, nor web/memory.c.
 """
 import gzip
 import hashlib
@@ -14,6 +15,7 @@ import tempfile
 from pathlib import Path
 
 import library
+import proved
 import stamp
 import unproved
 
@@ -39,14 +41,32 @@ def of_target(text):
         yield line
 
 
-def unproved_calls(room):
-    """The object of the calls, built without a proof."""
+def calls_of(bitcode, room):
+    """The object of the calls for WebAssembly, of their module of LLVM."""
     clang = unproved.clang_words()[0]
-    unproved.run_tool(clang, "-x", "ir", library.without_proof("calls.bc"), "-S", "-emit-llvm", "-O0", "-o", room / "calls.ll")
+    unproved.run_tool(clang, "-x", "ir", bitcode, "-S", "-emit-llvm", "-O0", "-o", room / "calls.ll")
     with open(room / "calls.ll", encoding="utf8") as old, open(room / "target.ll", "w", encoding="utf8") as new:
         new.writelines(of_target(old))
     unproved.run_tool(clang, *FLAGS, "-x", "ir", room / "target.ll", "-o", room / "calls.o")
     return room / "calls.o"
+
+
+def proved_bitcode(copy, room):
+    """The module of LLVM that a proof of the calls hands to clang, over the libraries that a copy has."""
+    toolchain, tool = unproved.kit() / "toolchain", room / "tool"
+    (tool / "bin").mkdir(parents=True)
+    for it in [*toolchain.iterdir(), *(toolchain / "bin").iterdir()]:
+        if it.name not in ("bin", "clang"):
+            (tool / it.relative_to(toolchain)).symlink_to(it)
+    (tool / "bin" / "clang").write_text(unproved.CATCHES.format(room=room, clang=toolchain / "bin" / "clang"))
+    (tool / "bin" / "clang").chmod(0o755)
+    words = [tool if it == toolchain else it for it in library.words_of_kit(copy)]
+    folder = copy / "crates" / library.CRATE
+    status = proved.run([str(it) for it in (unproved.kit() / "bin" / "rattle", "build", *words, "-o", room / "no.a")], folder)
+    found = list(room.glob("*.bc"))
+    if status != 0 or len(found) != 1:
+        raise library.NotBuilt("the module was not proved, as said above")
+    return found[0]
 
 
 class Module(unproved.Build):
@@ -58,7 +78,7 @@ class Module(unproved.Build):
 
     def make(self, folder):
         with tempfile.TemporaryDirectory(prefix="web-") as held:
-            made = module(unproved_calls(Path(held)), Path(held))
+            made = module(calls_of(library.without_proof("calls.bc"), Path(held)), Path(held))
             new = Path(tempfile.mkdtemp(prefix=f"new-{self.name}-", dir=unproved.KEPT))
             shutil.copyfile(made, new / made.name)
             new.rename(folder)
@@ -67,7 +87,8 @@ class Module(unproved.Build):
 def proved_module(copy):
     """The bytes of the module, by a proof over the libraries that a copy has."""
     with tempfile.TemporaryDirectory(prefix="web-") as held:
-        return module(library.over(copy, TARGET), Path(held)).read_bytes()
+        room = Path(held)
+        return module(calls_of(proved_bitcode(copy, room), room), room).read_bytes()
 
 
 def module(calls, room):
