@@ -47,7 +47,7 @@ pub const GOOD_REQUEST: &str =
 "#;
 
 /// Entities or a request, with the status and the lines.
-pub const DATA: [(Option<&str>, Option<&str>, u8, &[&str]); 15] = [
+pub const DATA: [(Option<&str>, Option<&str>, u8, &[&str]); 16] = [
     (
         Some(GOOD_ENTITIES),
         Some(GOOD_REQUEST),
@@ -166,6 +166,25 @@ pub const DATA: [(Option<&str>, Option<&str>, u8, &[&str]); 15] = [
         &[
             "e:3:9: error: Group::\"a\": the entity at 1:10 of this file has the same id",
             "policies: 0, accepted: 0, refused: 0, warnings: 0, faults: 0, entities: 2, errors in \
+             data: 1",
+        ],
+    ),
+    (
+        Some(
+            r#"[{"uid": {"type": "Org", "id": "a"}, "attrs": null, "parents": []},
+{"uid": {"type": "Org", "id": "b"}, "attrs": {}, "parents": [], "more": 1},
+{"uid": {"type": "Org", "id": "c"}, "attrs": {}},
+{"uid": {"type": "Org", "id": "d"}, "attrs": {"d": 1}, "parents": []}]"#,
+        ),
+        None,
+        2,
+        &[
+            "e:1:47: fault: `null` has no meaning here; what is not there is left out with its \
+             key",
+            "e:2:65: fault: a key that has no meaning here: `more`",
+            "e:3:1: fault: the key `parents` is missing",
+            "e:4:47: error: Org::\"d\".d: the attribute is not declared",
+            "policies: 0, accepted: 0, refused: 0, warnings: 0, faults: 3, entities: 4, errors in \
              data: 1",
         ],
     ),

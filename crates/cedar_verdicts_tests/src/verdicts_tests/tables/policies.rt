@@ -1,7 +1,7 @@
 // Policies in Cedar's own syntax, and the answers.
 
 /// Whole policies, each with the status and the beginning of a line.
-pub const POLICIES: [(&str, u8, &str); 30] = [
+pub const POLICIES: [(&str, u8, &str); 31] = [
     (
         "permit(principal, action, resource)\r\n\
          when { principal.age > 3 };\n\
@@ -14,6 +14,11 @@ pub const POLICIES: [(&str, u8, &str); 30] = [
         "permit(principal, action, resource) when { principal.age > 3 };\n\u{feff}",
         2,
         "p:2:1: fault: `permit` or `forbid` is expected, where `\\u{feff}` is read",
+    ),
+    (
+        "permit(principal, action, resource) when { {gr\u{f6}\u{df}e: 1} has gr\u{f6}\u{df}e };",
+        0,
+        "p:1:1: policy `policy0`: accepted, level 0",
     ),
     (
         "permit(principal, action is Action, resource);",

@@ -100,7 +100,7 @@ pub const SCHEMAS: [(&str, u8, &str); 16] = [
 ];
 
 /// Texts before `SCHEMA` and behind it, with the status and the beginning of a line.
-pub const AROUND: [(&str, &str, u8, &str); 11] = [
+pub const AROUND: [(&str, &str, u8, &str); 13] = [
     (
         "type Long = String; ",
         "",
@@ -115,6 +115,18 @@ pub const AROUND: [(&str, &str, u8, &str); 11] = [
     ),
     (
         "action a in [b]; action b in [a]; namespace N { } namespace N { }\n",
+        "",
+        0,
+        "p:1:1: policy `policy0`: accepted",
+    ),
+    (
+        "action a in [a];\n",
+        "",
+        0,
+        "p:1:1: policy `policy0`: accepted",
+    ),
+    (
+        "entity A { if: Long, has?: Bool, __cedar: Long }; action in in if; action if;\n",
         "",
         0,
         "p:1:1: policy `policy0`: accepted",
