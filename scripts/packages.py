@@ -5,7 +5,6 @@ DIR gets a wheel for Python, a package for npm, a jar, a crate, and a folder for
 release inside; the crate finds it by pkg-config. The version of an unproved release is that of the release with `unproved`, and
 each package has a file BUILD. A package is left out where the machine lacks its tool, which is said. Nothing is published.
 """
-import os
 import re
 import shutil
 import subprocess
@@ -17,9 +16,9 @@ from pathlib import Path
 import library
 import release
 import unproved
+from caller_cases import BINDINGS, Missing, need, ran
 
 TOP = unproved.TOP
-BINDINGS = TOP / "bindings"
 FLAGS = ["-O2", "-Wall", "-Wextra", "-Werror", "-shared", "-fPIC", "-Wl,-z,now", "-Wl,-z,relro"]
 # The oldest glibc of a common tag of wheels; the library wants no later one.
 WHEELS = "manylinux_2_17_x86_64"
@@ -31,23 +30,6 @@ Automatic-Module-Name: carrotknife.cedar
 Implementation-Title: cedar-validator
 Implementation-Version: {version}
 """
-
-
-class Missing(Exception):
-    """A tool that the machine has not."""
-
-
-def ran(*words, folder=None, env=None):
-    done = subprocess.run([str(it) for it in words], cwd=folder, stdin=subprocess.DEVNULL, stdout=subprocess.PIPE, stderr=subprocess.STDOUT, text=True, env={**os.environ, **(env or {})})
-    if done.returncode:
-        raise ValueError(f"{Path(words[0]).name} ended with status {done.returncode}\n{done.stdout[-3000:]}")
-    return done.stdout
-
-
-def need(*tools):
-    for tool in tools:
-        if shutil.which(tool) is None:
-            raise Missing(tool)
 
 
 def python_with(*modules):

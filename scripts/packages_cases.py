@@ -13,14 +13,13 @@ import tarfile
 import tempfile
 from pathlib import Path
 
-import caller_cases
 import library
 import packages
 import release
 import stamp
 import unproved
+from caller_cases import DEBIAN, Missing, need, ran
 from gate import browser
-from packages import Missing, need, ran
 
 SCHEMA = "entity U{a?:Long};action v appliesTo{principal:U,resource:U};"
 CALL = {"schema": SCHEMA, "policies": {"staticPolicies": {"x": "permit(principal,action,resource) when {principal.a == 1};"}}}
@@ -154,12 +153,12 @@ class Uses:
     def rust(self):
         """The crate beside those of Debian, in a folder that stands for crates.io."""
         need("cargo", "pkg-config")
-        if not any(caller_cases.DEBIAN.glob("serde_json-*")):
+        if not any(DEBIAN.glob("serde_json-*")):
             raise Missing("librust-serde-json-dev")
         crate, fresh = self.one("*.crate"), self.fresh("rust")
         vendor = fresh / "vendor"
         vendor.mkdir()
-        for it in caller_cases.DEBIAN.iterdir():
+        for it in DEBIAN.iterdir():
             (vendor / it.name).symlink_to(it)
         with tarfile.open(crate) as pack:
             pack.extractall(vendor)

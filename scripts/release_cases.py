@@ -24,6 +24,7 @@ import proved
 import release
 import stamp
 import unproved
+from editor_cases import Counts
 
 TOP = unproved.TOP
 SECONDS = 900
@@ -33,17 +34,6 @@ ROOTS = ("stable", "oldstable")
 INCLUDES = """#include <cedar.h>
 int main(void) { return cedar_abi() != CEDAR_ABI; }
 """
-
-
-class Counts:
-    def __init__(self):
-        self.passed = self.failed = 0
-
-    def want(self, name, is_well, got=None):
-        self.passed += bool(is_well)
-        self.failed += not is_well
-        if not is_well:
-            print(f"{name}: {str(got)[:900]}", flush=True)
 
 
 def ran(*words, **given):

@@ -17,6 +17,7 @@ import caller_cases
 import library
 import unproved
 import web
+from editor_cases import Counts
 from gate.browser import Browser, Missing, Server
 
 TOP = unproved.TOP
@@ -68,17 +69,6 @@ CONTRAST = """(() => {
         const [one, other] = [light(getComputedStyle(it).color), light(ground(it))].sort((a, b) => b - a); return (one + 0.05) / (other + 0.05); });
     return Math.min(...ratios);
 })()"""
-
-
-class Counts:
-    def __init__(self):
-        self.passed = self.failed = 0
-
-    def want(self, name, is_well, got=None):
-        self.passed += bool(is_well)
-        self.failed += not is_well
-        if not is_well:
-            print(f"{name}: {str(got)[:600]}", flush=True)
 
 
 def calls():
