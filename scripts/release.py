@@ -69,6 +69,9 @@ PROVED = """# What is proved of this release
 This is {build}. The commit's README, PROMISE and THEOREMS have the exact statements.
 
 {proved}
+
+**Trusted besides**: the C compiler and the binutils that link libcedar. For the page: the kit's clang, which compiles the proved
+module of libcedar to WebAssembly, web/memory.c with its memory, the scripts of the page, and the browser.
 """
 
 
@@ -177,7 +180,7 @@ def what_is_proved():
     """README's words on what is proved, tested and trusted, without links."""
     section = (TOP / "README.md").read_text(encoding="utf8").split("\n## What is proved\n")[1].split("\n## ")[0]
     kept = section.split("\n<!-- made")[0] + section.split("<!-- end -->")[1]
-    return re.sub(r"\[([^\]]*)\]\([^)]*\)", r"\1", kept).strip()
+    return re.sub(r"\n{3,}", "\n\n", re.sub(r"\[([^\]]*)\]\([^)]*\)", r"\1", kept).strip())
 
 
 def glibc(folder):

@@ -168,6 +168,8 @@ def refused(counts, room):
         except release.NotMade:
             is_refused = not (room / "none").exists()
     counts.want("nothing is made where the proof fails", is_refused)
+    said = release.what_is_proved()
+    counts.want("what PROVED.md says", all(it in said for it in ("do not go wrong", "A slice is enough", "**Only tested**", "**Trusted**")) and "](" not in said, said)
     for words in ((), ("--unproved",), ("--verify",), ("--unproved", "--verify", "x"), ("--no", "x"), ("a", "b")):
         done = ran(TOP / "scripts/release", *words)
         counts.want(f"scripts/release {' '.join(words)}", done.returncode == 2, done)
