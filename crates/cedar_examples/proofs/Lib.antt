@@ -1,4 +1,5 @@
 mod ArraysAreRead
+mod ChosenRows
 mod ExpressionPromises
 mod LeftOut
 mod LoadedData

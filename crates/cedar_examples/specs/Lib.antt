@@ -1,4 +1,5 @@
 pub mod ArraysAreRead
+pub mod ChosenRows
 pub mod ExpressionPromises
 pub mod LeftOut
 pub mod LoadedData

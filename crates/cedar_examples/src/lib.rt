@@ -6,4 +6,5 @@ pub mod arrays;
 pub mod hosts;
 pub mod in_rounds;
 pub mod memory;
+pub mod queries;
 pub mod validation;
