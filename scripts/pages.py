@@ -23,6 +23,7 @@ MAKERS = {
     "codes": listings.codes,
     "functions": listings.functions,
     "options": listings.options,
+    "samples": listings.samples,
     "libraries": api_pages.libraries,
     "tasks": api_pages.first_tasks,
     **promise.makers(),

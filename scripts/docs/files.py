@@ -88,6 +88,12 @@ def crates(files):
     return lines
 
 
+def samples(files):
+    """What EMBEDDING shows: the sample hosts, each a word of the command line and a file."""
+    words = re.findall(r'"(\w+)" => Asked::One', files.get("crates/cedar_samples/src/main.rt", ""))
+    return [f"- `{word}`: {first_sentence(files.get(f'crates/cedar_samples/src/{word}.rt', ''))}" for word in words]
+
+
 def listed(files):
     """What this script prints: each file of the crates that have definitions, with the first sentence of its comment."""
     lines = []

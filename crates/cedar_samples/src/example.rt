@@ -1,4 +1,4 @@
-// A host that validates two policies and prints a report on each. The README shows its end.
+// A host that validates two policies and prints a report on each. Its end is shown in docs/EMBEDDING.md.
 use cedar_host::policy_sets::WrittenPolicy;
 use cedar_host::safety::SoundMode;
 use cedar_host::slices::validate_for_slices;

@@ -1,5 +1,5 @@
-//! Sample hosts, to read and to copy: `cedar-samples [example | gate | queries [SCHEMA POLICIES] | rounds]`. Without a word all
-//! run, one after another. `cedar-samples clauses SCHEMA POLICIES` prints cases for tests of where-clauses.
+//! Sample hosts, to read and to copy: `cedar-samples [example | gate | queries [SCHEMA POLICIES] | rounds | store]`. Without a word
+//! all run, one after another. `cedar-samples clauses SCHEMA POLICIES` prints cases for tests of where-clauses.
 #![tactic(auto)]
 
 mod clauses;
@@ -7,6 +7,7 @@ mod example;
 mod gate;
 mod queries;
 mod rounds;
+mod store;
 mod texts;
 
 use example::ReportError;
@@ -17,7 +18,7 @@ use texts::{Files, HostError};
 use thiserror::Error;
 
 const USAGE: &str =
-    "usage: cedar-samples [example | gate | queries [SCHEMA POLICIES] | rounds | clauses SCHEMA POLICIES]";
+    "usage: cedar-samples [example | gate | queries [SCHEMA POLICIES] | rounds | store | clauses SCHEMA POLICIES]";
 
 /// The files of the sample `queries`, if no others are named.
 const DOCUMENTS: Files<'static> = Files {
@@ -32,14 +33,16 @@ enum Sample {
     Gate,
     Queries,
     Rounds,
+    Store,
 }
 
 /// All samples, in the order in which they run.
-const SAMPLES: [Sample; 4] = [
+const SAMPLES: [Sample; 5] = [
     Sample::Example,
     Sample::Gate,
     Sample::Queries,
     Sample::Rounds,
+    Sample::Store,
 ];
 
 /// The reason why a sample does not go on.
@@ -131,6 +134,7 @@ fn sample_of(word: &str) -> Asked {
         "gate" => Asked::One(Sample::Gate),
         "queries" => Asked::One(Sample::Queries),
         "rounds" => Asked::One(Sample::Rounds),
+        "store" => Asked::One(Sample::Store),
         _ => Asked::Misuse,
     }
 }
@@ -141,6 +145,7 @@ fn run_sample(rt: &HostRuntime, sample: Sample) -> Result<(), SampleError> {
         Sample::Gate => gate::run(rt)?,
         Sample::Queries => queries::run(rt, DOCUMENTS)?,
         Sample::Rounds => rounds::run(rt)?,
+        Sample::Store => store::run(rt)?,
     }
     Ok(())
 }

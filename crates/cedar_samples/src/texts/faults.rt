@@ -1,4 +1,5 @@
 // Reasons why a host of texts cannot go on.
+use cedar_data::DataError;
 use cedar_reading::{ReadError, SchemaReadError};
 use cedar_types::base::{ExtensionTableError, PolicyID};
 use std::alloc::AllocError;
@@ -25,4 +26,8 @@ pub enum HostError {
     /// Two policies have one id, and links and findings name a policy by its id.
     #[error("more than one policy has the id {0}")]
     RepeatedId(PolicyID),
+    #[error("entities cannot be read: {0}")]
+    Entities(#[from] DataError),
+    #[error("the entities do not fit the schema")]
+    UnfitEntities,
 }
