@@ -1,5 +1,7 @@
 -- Findings on a policy, in the terms of a verdict.
-use Rattle.std.proofs.Common.{◌≡◌, ◌∙◌, ℕ, ◌<◌, Bool, true, false, ◌&&◌, not, true≢false, List, map, length, Option, Some, None, refl, sym, ap, subst}
+use Rattle.std.proofs.Common.{◌≡◌, ◌∙◌, ℕ, ◌+◌, ◌-◌, ◌^◌, ◌<◌, min, arith, Bool, true, false, ◌&&◌, ◌||◌, not, true≢false, List, [], ◌++◌, append-nil, map, length, Option, Some, None, refl, sym, ap, subst}
+use Rattle.std.specs.BTreeMap.{BTreeMap}
+use Rattle.std.specs.List.{list_any}
 use Rattle.std.specs.Bool.{◌==◌}
 use Rattle.cedar_types.specs.declared.base.errors.validation_errors.ValidationError.{ValidationError}
 use Rattle.cedar_types.specs.declared.base.types.ValidationMode.{ValidationMode}
@@ -16,37 +18,55 @@ use Rattle.cedar_typechecker.specs.declared.rbac.validator.Validator.{Validator}
 use Rattle.cedar_typechecker.specs.declared.survey.Survey.{Survey}
 use Rattle.cedar_typechecker.specs.Levels.Outcome.{name_findings}
 use Rattle.cedar_typechecker.specs.Levels.Required.{IsRequiredLevel}
-use Rattle.cedar_typechecker.specs.Surveys.{IsSurveyOf, passes_of}
+use Rattle.cedar_typechecker.specs.Surveys.{IsSurveyOf, passes_of, impossible_of, errors_of, level_errors_of}
 use Rattle.cedar_typechecker.specs.ValidatorViews.{basis_in}
 use Rattle.cedar_host.specs.declared.policy_sets.Findings.{Findings}
 use Rattle.cedar_host.specs.declared.safety.SoundMode.{SoundMode}
-use Rattle.cedar_host.specs.Found.{AreFindingsOn, AreFindingsWithin}
+use Rattle.cedar_host.specs.Found.{AreFindingsOn, AreFindingsWithin, AreFoundBy, listed}
 use Rattle.cedar_host.specs.Safety.{DoesNotGoWrong, validation_mode}
 use Rattle.cedar_host.specs.Slices.{NeedsSliceAlone}
-use Rattle.cedar_verdicts.specs.Verdicts.{is_sound, levels_against, passes_all, finds_nothing, IsPromised, PassesWithoutLevel}
-
--- a survey decides whether a policy is accepted
-abbrev pub Decided : Basis → Option ℕ → PlainTemplate → Bool → Type 0
-Decided b level t accepted = (s : Survey) × IsSurveyOf b t s × (accepted ≡ passes_all b level t s)
+use Rattle.cedar_verdicts.specs.Found.{AreFoundAgainst, AreFoundByChecks, AreFoundIn}
+use Rattle.cedar_verdicts.specs.Verdicts.{is_sound, levels_against, passes_all, finds_nothing, found_by_checks, IsPromised, PassesWithoutLevel}
+use Rattle.cedar_verdicts.proofs.Members.{same_members}
+use Rattle.cedar_verdicts.proofs.Warned.{warned_by}
 
 module _ {C : Type 0} (meaning : C → Refusals) (v : Validator C) (t : PlainTemplate) where
   abbrev pub by : ValidationMode → Basis
   by m = basis_in meaning v m
 
+  found_in : (s : Survey) (levels : List Finding) (f : Findings) → AreFoundBy (by Strict).schema t s levels f
+      → AreFoundIn s (is_silent levels && (is_silent (name_findings Strict (by Strict).schema t) && passes_of s))
+      (levels ++ (errors_of s ++ name_findings Strict (by Strict).schema t)) f
+  found_in s levels f found = record {
+    accepted = found.accepted;
+    impossible = found.impossible;
+    warned = warned_by (by Strict).schema t (impossible_of s) f.warnings.items found.warnings;
+    errors = same_members (listed f.errors) (levels ++ (errors_of s ++ name_findings Strict (by Strict).schema t)) found.errors;
+  }
+
   pub without_level : (m : SoundMode) (f : Findings) → AreFindingsOn (by (validation_mode m)) t f
-      → Decided (by (validation_mode m)) None t f.is_accepted
-  without_level SoundMode.Strict f (s, surveyed, found) = (s, surveyed, found.accepted)
-  without_level SoundMode.Permissive f (s, surveyed, found) = (s, surveyed, found.accepted)
+      → AreFoundByChecks (by (validation_mode m)) None t f
+  without_level SoundMode.Strict f (s, surveyed, found) = (s, surveyed, found_in s [] f found)
+  without_level SoundMode.Permissive f (s, surveyed, found) = (s, surveyed, found_in s [] f found)
 
   pub with_level : (m : SoundMode) (n : ℕ) (f : Findings) → AreFindingsWithin n (by (validation_mode m)) t f
-      → Decided (by (validation_mode m)) (Some n) t f.is_accepted
-  with_level SoundMode.Strict n f (s, surveyed, found) = (s, surveyed, found.accepted)
-  with_level SoundMode.Permissive n f (s, surveyed, found) = (s, surveyed, found.accepted)
+      → AreFoundByChecks (by (validation_mode m)) (Some n) t f
+  with_level SoundMode.Strict n f (s, surveyed, found) = (s, surveyed, found_in s (level_errors_of s n) f found)
+  with_level SoundMode.Permissive n f (s, surveyed, found) = (s, surveyed, found_in s (level_errors_of s n) f found)
 
-  pub in_partial : (level : Option ℕ) (s : Survey) (accepted : Bool) → IsSurveyOf (by Partial) t s
-      → accepted ≡ passes_of s → Decided (by Partial) level t accepted
-  in_partial None s accepted surveyed is = (s, surveyed, is)
-  in_partial (Some n) s accepted surveyed is = (s, surveyed, is)
+  nothing_more : (s : Survey) (f : Findings) → AreFoundIn s (passes_of s) (errors_of s) f
+      → AreFoundIn s (passes_of s) (errors_of s ++ []) f
+  nothing_more s f h = record {
+    accepted = h.accepted;
+    impossible = h.impossible;
+    warned = h.warned;
+    errors = λ p. h.errors p ∙ ap (list_any p) (sym (append-nil (errors_of s)));
+  }
+
+  pub in_partial : (level : Option ℕ) (s : Survey) (f : Findings) → IsSurveyOf (by Partial) t s
+      → AreFoundIn s (passes_of s) (errors_of s) f → AreFoundByChecks (by Partial) level t f
+  in_partial None s f surveyed h = (s, surveyed, nothing_more s f h)
+  in_partial (Some n) s f surveyed h = (s, surveyed, nothing_more s f h)
 
   -- Partial promises nothing of evaluation
   pub unpromised : (level : Option ℕ) (accepted : Bool) → IsPromised (by Partial) level t accepted
@@ -127,3 +147,8 @@ passes_without b level t s true surveyed is h = (
       (is_silent (name_findings b.mode b.schema t) && passes_of s) (is_silent (unread_in t)) (no_levels b.mode s) (sym is),
 )
 passes_without b level t s false surveyed is h = h refl
+
+-- ---- findings that are not listed
+
+pub none_more : (a b sum : ℕ) → sum ≡ min (a + b) (2 ^ 64 - 1) → sum ≡ 0 → b ≡ 0
+none_more a b sum is none = omega arith

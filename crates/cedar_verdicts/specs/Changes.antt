@@ -1,19 +1,9 @@
 -- Policies that are worse off by a second verdict.
 use Rattle.std.specs.Prelude.{Bool, true, false, not, ◌&&◌, ◌||◌, nat_lt}
-use Rattle.std.specs.List.{list_any}
-use Rattle.cedar_findings.specs.declared.codes.Code.{Code}
-use Rattle.cedar_findings.specs.declared.codes.Code.TheVariants as Code
 use Rattle.cedar_findings.specs.declared.findings.Requirement.{Requirement}
 use Rattle.cedar_findings.specs.declared.findings.Requirement.TheVariants as Requirement
 use Rattle.cedar_findings.specs.declared.findings.Verdict.{Verdict}
-
-abbrev pub is_impossible_code : Code → Bool
-is_impossible_code Code.Impossible = true
-is_impossible_code _ = false
-
--- a warning calls the policy impossible
-abbrev pub has_impossible : Verdict → Bool
-has_impossible v = list_any (λ f. is_impossible_code f.code) v.warnings.items
+use Rattle.cedar_verdicts.specs.Impossible.{has_impossible}
 
 -- a level is greater than another, or no level is enough any more
 abbrev pub needs_more : Requirement → Requirement → Bool

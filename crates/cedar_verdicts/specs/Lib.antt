@@ -1,7 +1,13 @@
+pub mod CallIds
 pub mod Changes
+pub mod Found
 pub mod Ids
+pub mod Impossible
 pub mod Links
+pub mod Mistakes
 pub mod Reading
 pub mod Sets
 pub mod Texts
+pub mod VerdictExamples
 pub mod Verdicts
+pub mod Warnings

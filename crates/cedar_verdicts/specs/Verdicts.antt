@@ -1,8 +1,9 @@
 -- Verdicts on a policy, and the conditions under which they are right and whole.
-use Rattle.std.specs.Prelude.{◌≡◌, ℕ, ◌<◌, Bool, true, false, ◌&&◌, not, List, [], length, Option, Some, None}
+use Rattle.std.specs.Prelude.{◌≡◌, ℕ, ◌<◌, Bool, true, false, ◌&&◌, not, List, [], ◌++◌, length, Option, Some, None}
+use Rattle.std.specs.List.{list_any}
 use Rattle.cedar_types.specs.declared.base.types.ValidationMode.{ValidationMode}
 use Rattle.cedar_types.specs.declared.base.types.ValidationMode.TheVariants.{Strict, Permissive, Partial}
-use Rattle.cedar_types.specs.Errors.{Finding}
+use Rattle.cedar_types.specs.Errors.{Fault, unrecognized_entity_type, unrecognized_action_id, Finding}
 use Rattle.cedar_types.specs.Extensions.Functions.{Refusals}
 use Rattle.cedar_types.specs.Templates.{PlainTemplate}
 use Rattle.cedar_extensions.specs.Calls.{unread_in}
@@ -11,14 +12,15 @@ use Rattle.cedar_typing.specs.Soundness.Policies.{Basis}
 use Rattle.cedar_typechecker.specs.declared.survey.Survey.{Survey}
 use Rattle.cedar_typechecker.specs.Levels.Outcome.{name_findings}
 use Rattle.cedar_typechecker.specs.Levels.Required.{IsRequiredLevel}
-use Rattle.cedar_typechecker.specs.Surveys.{IsSurveyOf, passes_of, level_errors_of}
+use Rattle.cedar_typechecker.specs.Surveys.{IsSurveyOf, passes_of, impossible_of, errors_of, level_errors_of}
 use Rattle.cedar_typechecker.specs.ValidatorViews.{basis_in}
 use Rattle.cedar_findings.specs.declared.findings.Requirement.{Requirement}
 use Rattle.cedar_findings.specs.declared.findings.Requirement.TheVariants as Requirement
 use Rattle.cedar_findings.specs.declared.findings.Verdict.{Verdict}
-use Rattle.cedar_host.specs.Safety.{DoesNotGoWrong}
+use Rattle.cedar_host.specs.Safety.{DoesNotGoWrong, IsNeverTrue}
 use Rattle.cedar_host.specs.Slices.{NeedsSliceAlone}
 use Rattle.cedar_verdicts.specs.declared.settings.Settings.{Settings}
+use Rattle.cedar_verdicts.specs.Impossible.{has_impossible}
 
 -- ---- the basis of judgment
 
@@ -52,6 +54,23 @@ passes_all b level t s =
 abbrev pub finds_nothing : Basis → Option ℕ → PlainTemplate → Survey → Bool
 finds_nothing b level t s = passes_all b level t s && is_silent (unread_in t)
 
+-- the errors of a policy's levels, checks and names
+abbrev pub found_by_checks : Basis → Option ℕ → PlainTemplate → Survey → List Finding
+found_by_checks b level t s = levels_against b.mode level s ++ (errors_of s ++ name_findings b.mode b.schema t)
+
+-- these errors, and those of the texts of its calls
+abbrev pub found_against : Basis → Option ℕ → PlainTemplate → Survey → List Finding
+found_against b level t s = found_by_checks b level t s ++ unread_in t
+
+abbrev pub is_unknown : Fault → Bool
+is_unknown (unrecognized_entity_type p) = true
+is_unknown (unrecognized_action_id u) = true
+is_unknown _ = false
+
+-- the schema does not declare the type or the action of this error
+abbrev pub is_unknown_name : Finding → Bool
+is_unknown_name f = is_unknown f.fault
+
 -- ---- the required level
 
 -- a policy has no finding if no level is asked for
@@ -78,11 +97,13 @@ pub record IsPromised (b : Basis) (level : Option ℕ) (t : PlainTemplate) (is_a
   pub sliced : (n : ℕ) → level ≡ Some n → is_sound b.mode ≡ true → is_accepted ≡ true → NeedsSliceAlone b t n
 
 -- a verdict claims no more than holds: acceptance keeps its promise, a level in it is the required
--- one, and only a policy with no findings but level errors has one
+-- one, only a policy with no findings but level errors has one, and in Strict and in Permissive a
+-- policy that a warning calls impossible is never true
 pub record IsRightVerdict (b : Basis) (level : Option ℕ) (t : PlainTemplate) (v : Verdict) : Type 0 where
   pub promised : IsPromised b level t v.is_accepted
   pub required : is_said v.requirement ≡ true → IsRequiredLevel b t (level_said v.requirement)
   pub only : is_said v.requirement ≡ true → PassesWithoutLevel b t
+  pub never_true : is_sound b.mode ≡ true → has_impossible v ≡ true → IsNeverTrue b t
 
 -- a verdict claims no less than holds: a policy is accepted exactly if nothing is found against it,
 -- and no policy of its set before it has its id
@@ -95,3 +116,8 @@ pub record IsWholeVerdict (b : Basis) (level : Option ℕ) (t : PlainTemplate) (
   pub clean : v.is_accepted ≡ true → length v.errors.items ≡ 0
   -- the level is said if nothing is found against the policy
   pub said : finds_nothing b level t survey ≡ true → is_sound b.mode ≡ true → is_said v.requirement ≡ true
+  -- a warning calls the policy impossible if its survey does, unless the schema does not declare a
+  -- name in it, or a finding is not listed
+  pub impossible : impossible_of survey ≡ true
+      → list_any is_unknown_name (found_against b level t survey) ≡ false
+      → v.others ≡ 0 → has_impossible v ≡ true

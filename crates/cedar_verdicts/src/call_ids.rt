@@ -1,5 +1,7 @@
 //! Ids of the policies of several files, because no two policies of a call may have one id.
-ghost use Rattle.std.specs.Prelude.{◌≡◌, true, OnOk};
+ghost use Rattle.std.specs.Prelude.{◌≡◌, ◌+◌, ◌-◌, ◌^◌, ◌&&◌, min, true, false, not, None, OnOk};
+ghost use Rattle.cedar_types.specs.Names.{Text, text_of};
+ghost use Rattle.cedar_verdicts.specs.CallIds.{file_of, has_other, number_after};
 
 use crate::causes::place_of;
 use cedar_findings::codes::Code;
@@ -27,21 +29,28 @@ struct FirstFile {
 
 impl CallIds {
     /// An empty collection of ids.
-    pub fn new(alloc: Global) -> CallIds {
+    pub fn new(alloc: Global) -> CallIds
+        ensures { (t : Text) → file_of result t ≡ None }
+    {
         CallIds {
             files: BTreeMap::new(alloc),
             number: 0,
         }
     }
 
-    /// Begins the next file of the call.
-    pub fn begin_file(&mut self) {
+    /// Begins the next file of the call, whose number no id has (clause `next`), unless that is the
+    /// greatest one.
+    pub fn begin_file(&mut self)
+        ensures next { self.new.number ≡ min (self.old.number + 1) (2 ^ 64 - 1) }
+        ensures kept { self.new.files ≡ self.old.files }
+    {
         self.number = self.number.saturating_add(1);
     }
 
-    /// Takes note of the id of a policy of this file. If another file has the id, the policy is
-    /// refused, and an error says so: a verdict that accepts is the one that was given (clause
-    /// `strict`), and the level stays (clause `level`). It fails if memory is refused.
+    /// Takes note of the id of a policy of this file, unless a file has it already (clause `noted`).
+    /// If another file has the id, the policy is refused, and an error says so (clause `exact`): a
+    /// verdict that accepts is the one that was given (clause `strict`), and the level and the
+    /// warnings stay (clauses `level` and `warnings`). It fails if memory is refused.
     pub fn take(
         &mut self,
         alloc: Global,
@@ -49,9 +58,15 @@ impl CallIds {
         policy: &Template,
         verdict: &mut Verdict,
     ) -> Result<(), AllocError>
+        ensures exact { OnOk result (verdict.new.is_accepted
+            ≡ (verdict.old.is_accepted && not (has_other self.old (text_of policy.now.id.text)))) }
+        ensures noted { OnOk result ((t : Text) → file_of self.new t
+            ≡ number_after self.old (text_of policy.now.id.text) t) }
+        ensures same_file { self.new.number ≡ self.old.number }
         ensures strict { OnOk result
             (verdict.new.is_accepted ≡ true → verdict.new ≡ verdict.old) }
         ensures level { OnOk result (verdict.new.requirement ≡ verdict.old.requirement) }
+        ensures warnings { OnOk result (verdict.new.warnings ≡ verdict.old.warnings) }
     {
         let id = policy.id.text.clone()?;
         if let Some(first) = self.files.get(&id) {
@@ -79,9 +94,9 @@ fn refuse(
     why: &str,
     verdict: &mut Verdict,
 ) -> Result<(), AllocError>
-    ensures strict { OnOk result
-        (verdict.new.is_accepted ≡ true → verdict.new ≡ verdict.old) }
+    ensures refused { OnOk result (verdict.new.is_accepted ≡ false) }
     ensures level { OnOk result (verdict.new.requirement ≡ verdict.old.requirement) }
+    ensures warnings { OnOk result (verdict.new.warnings ≡ verdict.old.warnings) }
 {
     let place = Some(place_of(policy));
     let error = Finding::new(alloc, policy, Code::SameId, place, why)?;

@@ -1,4 +1,8 @@
 // Causes of the findings of a policy, before they are put into words.
+ghost use Rattle.std.specs.Prelude.{◌≡◌, true};
+ghost use Rattle.cedar_verdicts.specs.Impossible.{is_impossible_code};
+ghost use Rattle.cedar_verdicts.specs.Mistakes.{is_error, says_impossible, may_say_impossible};
+
 use crate::impossible::FalsePart;
 use cedar_findings::codes::Code;
 use cedar_reading::Position;
@@ -12,11 +16,14 @@ use std::alloc::{AllocError, Global};
 #[derive(Clone, Copy)]
 pub enum Cause<'a> {
     Error(&'a ValidationError, &'a Environments),
-    Warning(&'a ValidationWarning),
-    /// A policy is impossible, because this part is false.
-    FalsePart(&'a ValidationWarning, &'a FalsePart),
-    /// Characters of this kind may make a policy read as another one; the text tells why.
-    Marks(Code, &'static str),
+    /// No action fits the scope of a policy.
+    NoAction(&'a ValidationWarning),
+    /// A policy is impossible, because of this false part if it is known.
+    Impossible(&'a ValidationWarning, Option<&'a FalsePart>),
+    /// Marks of direction may make a policy read as another one; the text tells why.
+    Direction(&'static str),
+    /// Letters may make a policy read as another one; the text tells why.
+    LookAlike(&'static str),
     /// A policy is refused without an error; the text tells the likely reason.
     Unexplained(&'static str),
     /// Another policy has the id, at this position of the file.
@@ -37,11 +44,16 @@ pub struct Found<'a> {
 
 impl Found<'_> {
     /// The kind of the finding.
-    pub fn code(&self) -> Code {
+    pub fn code(&self) -> Code
+        ensures told { says_impossible self.now ≡ true → is_impossible_code result ≡ true }
+        ensures only { is_impossible_code result ≡ true → may_say_impossible self.now ≡ true }
+    {
         match self.cause {
             Cause::Error(error, _) => Code::of_error(error),
-            Cause::Warning(warning) | Cause::FalsePart(warning, _) => Code::of_warning(warning),
-            Cause::Marks(code, _) => code,
+            Cause::NoAction(_) => Code::NoAction,
+            Cause::Impossible(_, _) => Code::Impossible,
+            Cause::Direction(_) => Code::Direction,
+            Cause::LookAlike(_) => Code::LookAlike,
             Cause::Unexplained(_) => Code::Unchecked,
             Cause::SameId(_) => Code::SameId,
         }
@@ -49,7 +61,9 @@ impl Found<'_> {
 
     /// Whether two errors are one mistake: they stand at one place, and differ only in types. For example, `principal.age` is
     /// one mistake if both `User` and `Robot` lack the attribute.
-    pub fn is_same_mistake(&self, other: &Found<'_>) -> bool {
+    pub fn is_same_mistake(&self, other: &Found<'_>) -> bool
+        ensures { result ≡ true → is_error other.now ≡ true }
+    {
         match (self.cause, other.cause) {
             (Cause::Error(one, _), Cause::Error(two, _)) => {
                 self.place == other.place && is_same_but_for_types(one, two)

@@ -1,6 +1,7 @@
 //! Comparison of the verdicts on policies by an older schema and by a newer one.
 ghost use Rattle.std.specs.Prelude.{◌≡◌, IfOk};
-ghost use Rattle.cedar_verdicts.specs.Changes.{has_impossible, is_impossible_code, needs_more, is_worse_by};
+ghost use Rattle.cedar_verdicts.specs.Changes.{needs_more, is_worse_by};
+ghost use Rattle.cedar_verdicts.specs.Impossible.{calls_impossible, has_impossible};
 
 use crate::settings::Settings;
 use crate::texts::{PolicyText, PolicyVerdicts, Said};
@@ -30,7 +31,7 @@ fn is_impossible(verdict: &Verdict) -> bool
 }
 
 fn tells_impossible(finding: &Finding) -> bool
-    ensures { result ≡ is_impossible_code finding.now.code }
+    ensures { result ≡ calls_impossible finding.now }
 {
     matches!(finding.code, Code::Impossible)
 }

@@ -1,13 +1,17 @@
 // Findings of validation on a policy, in any mode.
-ghost use Rattle.std.specs.Prelude.{◌≡◌, true, None, option_map, IfOk, IfSome};
+ghost use Rattle.std.specs.Prelude.{◌≡◌, true, [], ◌∷◌, None, option_map, IfOk, IfSome, OnOk};
 ghost use Rattle.cedar_types.specs.declared.base.types.ValidationMode.TheVariants.{Partial};
+ghost use Rattle.cedar_types.specs.Errors.{finding_of};
 ghost use Rattle.cedar_types.specs.Templates.{template_of};
 ghost use Rattle.cedar_typechecker.specs.declared.survey.Survey.{Survey};
 ghost use Rattle.cedar_typechecker.specs.Levels.Required.{IsRequiredLevel};
-ghost use Rattle.cedar_typechecker.specs.Surveys.{IsSurveyOf, passes_of};
+ghost use Rattle.cedar_typechecker.specs.Levels.Views.{findings};
+ghost use Rattle.cedar_typechecker.specs.Surveys.{IsSurveyOf, passes_of, errors_of};
 ghost use Rattle.cedar_typechecker.specs.ValidatorViews.{basis_in};
-ghost use Rattle.cedar_host.specs.Safety.{validation_mode};
-ghost use Rattle.cedar_verdicts.specs.Verdicts.{basis_of, is_sound, passes_all, finds_nothing, IsPromised};
+ghost use Rattle.cedar_host.specs.Found.{listed};
+ghost use Rattle.cedar_host.specs.Safety.{validation_mode, IsNeverTrue};
+ghost use Rattle.cedar_verdicts.specs.Found.{AreAdded, AreFoundIn, AreFoundByChecks, AreFoundAgainst};
+ghost use Rattle.cedar_verdicts.specs.Verdicts.{basis_of, is_sound, IsPromised};
 
 use crate::settings::Settings;
 use cedar_extensions::unread_texts::unread_texts;
@@ -34,10 +38,11 @@ pub fn find<C: ArgumentCheck>(
     ensures level { IfOk result (λ found. is_sound settings.now.mode ≡ true
         → IsRequiredLevel (basis_of C.refusal settings.now) (template_of policy.now)
         (option_map (λ l. l.level) found.level)) }
-    ensures exact { IfOk result (λ found. (survey : Survey)
-        × IsSurveyOf (basis_of C.refusal settings.now) (template_of policy.now) survey
-        × (found.is_accepted ≡ finds_nothing (basis_of C.refusal settings.now)
-        settings.now.level (template_of policy.now) survey)) }
+    ensures never_true { IfOk result (λ found.
+        is_sound settings.now.mode ≡ true → found.is_impossible ≡ true
+        → IsNeverTrue (basis_of C.refusal settings.now) (template_of policy.now)) }
+    ensures exact { IfOk result (AreFoundAgainst (basis_of C.refusal settings.now)
+        settings.now.level (template_of policy.now)) }
 {
     let mut found = find_by_mode(alloc, settings, policy)?;
     let unread = unread_texts(alloc, policy)?;
@@ -52,10 +57,26 @@ fn add_unread(
     alloc: Global,
     errors: &mut BTreeMap<ValidationError, Environments>,
     unread: Vec<ValidationError>,
-) -> Result<(), AllocError> {
+) -> Result<(), AllocError>
+    ensures { OnOk result (
+        AreAdded (findings unread.items) (listed errors.old) (listed errors.new)) }
+{
     for error in unread {
-        errors.insert(error, Environments::none(alloc))?;
+        add_error(alloc, errors, error)?;
     }
+    Ok(())
+}
+
+/// Adds an error that typing does not find, so that it has no environment.
+fn add_error(
+    alloc: Global,
+    errors: &mut BTreeMap<ValidationError, Environments>,
+    error: ValidationError,
+) -> Result<(), AllocError>
+    ensures { OnOk result (
+        AreAdded (finding_of error ∷ []) (listed errors.old) (listed errors.new)) }
+{
+    errors.insert(error, Environments::none(alloc))?;
     Ok(())
 }
 
@@ -71,10 +92,11 @@ fn find_by_mode<C: ArgumentCheck>(
     ensures level { IfOk result (λ found. is_sound settings.now.mode ≡ true
         → IsRequiredLevel (basis_of C.refusal settings.now) (template_of policy.now)
         (option_map (λ l. l.level) found.level)) }
-    ensures exact { IfOk result (λ found. (survey : Survey)
-        × IsSurveyOf (basis_of C.refusal settings.now) (template_of policy.now) survey
-        × (found.is_accepted ≡ passes_all (basis_of C.refusal settings.now)
-        settings.now.level (template_of policy.now) survey)) }
+    ensures never_true { IfOk result (λ found.
+        is_sound settings.now.mode ≡ true → found.is_impossible ≡ true
+        → IsNeverTrue (basis_of C.refusal settings.now) (template_of policy.now)) }
+    ensures exact { IfOk result (AreFoundByChecks (basis_of C.refusal settings.now)
+        settings.now.level (template_of policy.now)) }
 {
     let validator = settings.validator;
     let Some(mode) = sound_mode(settings.mode) else {
@@ -113,7 +135,7 @@ fn find_in_partial<C: ArgumentCheck>(
 ) -> Result<Findings, AllocError>
     ensures { IfOk result (λ found. (survey : Survey)
         × IsSurveyOf (basis_in C.refusal validator.now Partial) (template_of policy.now) survey
-        × (found.is_accepted ≡ passes_of survey)) }
+        × AreFoundIn survey (passes_of survey) (errors_of survey) found) }
 {
     let survey = validator.survey(alloc, policy, ValidationMode::Partial)?;
     let passes = survey.passes();

@@ -10,6 +10,7 @@ pub mod data;
 mod data_hints;
 mod environments;
 mod errors;
+mod examples;
 mod found;
 mod ids;
 mod impossible;
@@ -27,3 +28,5 @@ pub mod texts;
 pub mod verdicts;
 mod warnings;
 mod wording;
+
+pub use examples::examples_of_verdicts;

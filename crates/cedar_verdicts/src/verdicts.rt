@@ -20,10 +20,11 @@ const MAX_FINDINGS: usize = 100;
 
 /// The verdict on a policy alone; its hints take their examples from this text. A policy that is
 /// accepted in Strict or in Permissive does not go wrong, and needs the slice of the level alone,
-/// if one is asked for; a level that the verdict names is the required one (clause `right`). The
-/// policy is accepted exactly if its checks, its names, its levels and the texts of its calls have
-/// no error, and an error is listed exactly if it is refused (clause `whole`). If memory is
-/// refused, the answer is an `AllocError`.
+/// if one is asked for; a level that the verdict names is the required one, and a policy that it
+/// calls impossible is never true (clause `right`). The policy is accepted exactly if its checks,
+/// its names, its levels and the texts of its calls have no error, and an error is listed exactly
+/// if it is refused. If it is impossible, a warning says so, unless the schema lacks a name in it
+/// or a finding is not listed (clause `whole`). If memory is refused, the answer is an `AllocError`.
 pub fn judge<C: ArgumentCheck>(
     alloc: Global,
     settings: &Settings<'_, C>,
@@ -65,16 +66,17 @@ pub(crate) fn judge_in_set<C: ArgumentCheck>(
     let errors = first_findings(alloc, about, causes, MAX_FINDINGS)?;
     let room = MAX_FINDINGS.saturating_sub(errors.listed.len());
     let parts = find_false_parts(alloc, settings, &found, policy)?;
-    let causes = warning_causes(alloc, &found, parts.as_slice(), marks, policy)?;
-    let warning_count = causes.len() as u64;
-    let warnings = first_findings(alloc, about, causes, room)?;
+    let slips = warning_causes(alloc, &found, parts.as_slice(), marks, policy)?;
+    let warning_count = slips.len() as u64;
+    let warnings = first_findings(alloc, about, slips, room)?;
+    let others = errors.others.saturating_add(warnings.others);
     let requirement = requirement(alloc, settings, policy, &found)?;
     Ok(Verdict {
         is_accepted: found.is_accepted & same_id.is_none(),
         requirement,
         errors: errors.listed,
         warnings: warnings.listed,
-        others: errors.others.saturating_add(warnings.others),
+        others,
         warning_count,
     })
 }

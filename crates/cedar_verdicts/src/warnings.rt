@@ -1,7 +1,15 @@
 // Causes of the warnings of a policy, which may be slips.
+ghost use Rattle.std.specs.Prelude.{◌≡◌, true, false, [], IfOk, OnOk};
+ghost use Rattle.std.specs.BTreeMap.{keys};
+ghost use Rattle.std.specs.List.{list_any};
+ghost use Rattle.cedar_verdicts.specs.Found.{is_unknown_error};
+ghost use Rattle.cedar_verdicts.specs.Mistakes.{says_impossible};
+ghost use Rattle.cedar_verdicts.specs.Warnings.{Gain, tells_impossible, warns_that_impossible};
+
 use crate::causes::{Cause, Found, place_of};
 use crate::impossible::{FalsePart, false_parts};
 use crate::settings::Settings;
+use cedar_findings::codes::Code;
 use cedar_findings::marks::Marked;
 use cedar_host::policy_sets::Findings;
 use cedar_typechecker::survey::Environments;
@@ -16,60 +24,105 @@ pub fn find_false_parts<C: ArgumentCheck>(
     found: &Findings,
     policy: &Template,
 ) -> Result<Vec<FalsePart>, AllocError> {
-    for warning in &found.warnings {
-        let is_impossible = matches!(warning, ValidationWarning::ImpossiblePolicy(_));
-        if is_impossible && !follows(warning, &found.errors, policy) {
-            return false_parts(alloc, settings, policy);
-        }
+    if found.is_impossible && !has_unknown_name(&found.errors) {
+        return false_parts(alloc, settings, policy);
     }
     Ok(Vec::new(alloc))
 }
 
 /// The causes of warnings: those that do not follow from errors, and the texts that may be read as
-/// others.
+/// others. They say that the policy is impossible exactly if a warning does that does not follow.
 pub fn warning_causes<'a>(
     alloc: Global,
     found: &'a Findings,
     parts: &'a [FalsePart],
     marks: &[Marked],
     policy: &Template,
-) -> Result<Vec<Found<'a>>, AllocError> {
+) -> Result<Vec<Found<'a>>, AllocError>
+    ensures { IfOk result (λ causes. Gain (warns_that_impossible found.now) [] causes.items) }
+{
     let mut causes = Vec::new(alloc);
     add_warnings(found, parts, policy, &mut causes)?;
     add_marks(policy, marks, &mut causes)?;
     Ok(causes)
 }
 
-/// Adds the warnings that do not follow from errors. An impossible policy gets one at each part
-/// that is false.
+/// Adds the warnings that do not follow from errors.
 fn add_warnings<'a>(
     found: &'a Findings,
     parts: &'a [FalsePart],
     policy: &Template,
     causes: &mut Vec<Found<'a>>,
-) -> Result<(), AllocError> {
+) -> Result<(), AllocError>
+    ensures { OnOk result (
+        Gain (warns_that_impossible found.now) causes.old.items causes.new.items) }
+{
     for warning in &found.warnings {
-        if follows(warning, &found.errors, policy) {
-            continue;
-        }
-        let parts = match warning {
-            ValidationWarning::ImpossiblePolicy(_) => parts,
-            ValidationWarning::InvalidActionApplication(_) => &[],
-        };
-        if parts.is_empty() {
-            let place = warning.source_loc().unwrap_or(place_of(policy));
-            let cause = Cause::Warning(warning);
-            causes.push(Found { place, cause })?;
-        }
-        for part in parts {
-            let cause = Cause::FalsePart(warning, part);
-            causes.push(Found {
-                place: part.place,
-                cause,
-            })?;
-        }
+        add_warning(&found.errors, warning, parts, policy, causes)?;
     }
     Ok(())
+}
+
+/// Adds a warning, unless it follows from errors.
+fn add_warning<'a>(
+    errors: &BTreeMap<ValidationError, Environments>,
+    warning: &'a ValidationWarning,
+    parts: &'a [FalsePart],
+    policy: &Template,
+    causes: &mut Vec<Found<'a>>,
+) -> Result<(), AllocError>
+    ensures { OnOk result (
+        Gain (tells_impossible errors.now warning.now) causes.old.items causes.new.items) }
+{
+    match warning {
+        ValidationWarning::ImpossiblePolicy(_) => {
+            if has_unknown_name(errors) {
+                return Ok(());
+            }
+            add_impossible(warning, parts, policy, causes)
+        }
+        ValidationWarning::InvalidActionApplication(_) => {
+            if names_unknown_in_scope(errors, policy) {
+                return Ok(());
+            }
+            let place = warning.source_loc().unwrap_or(place_of(policy));
+            let cause = Cause::NoAction(warning);
+            causes.push(Found { place, cause })?;
+            Ok(())
+        }
+    }
+}
+
+/// Adds that a policy is impossible, at each part that is false; at the policy if none is known.
+fn add_impossible<'a>(
+    warning: &'a ValidationWarning,
+    parts: &'a [FalsePart],
+    policy: &Template,
+    causes: &mut Vec<Found<'a>>,
+) -> Result<(), AllocError>
+    ensures { OnOk result (Gain true causes.old.items causes.new.items) }
+{
+    let Some((first, others)) = parts.split_first() else {
+        let place = warning.source_loc().unwrap_or(place_of(policy));
+        let cause = Cause::Impossible(warning, None);
+        causes.push(Found { place, cause })?;
+        return Ok(());
+    };
+    causes.push(impossible_at(warning, first))?;
+    for part in others {
+        causes.push(impossible_at(warning, part))?;
+    }
+    Ok(())
+}
+
+/// The cause that a policy is impossible because of a part.
+fn impossible_at<'a>(warning: &'a ValidationWarning, part: &'a FalsePart) -> Found<'a>
+    ensures { says_impossible result ≡ true }
+{
+    Found {
+        place: part.place,
+        cause: Cause::Impossible(warning, Some(part)),
+    }
 }
 
 /// Adds the texts that may be read as others.
@@ -77,33 +130,41 @@ fn add_marks(
     policy: &Template,
     marks: &[Marked],
     causes: &mut Vec<Found<'_>>,
-) -> Result<(), AllocError> {
+) -> Result<(), AllocError>
+    ensures { OnOk result (Gain false causes.old.items causes.new.items) }
+{
     for it in marks {
         let place = it.place.unwrap_or(place_of(policy));
-        let cause = Cause::Marks(it.code, it.text);
+        let cause = match it.code {
+            Code::Direction => Cause::Direction(it.text),
+            _ => Cause::LookAlike(it.text),
+        };
         causes.push(Found { place, cause })?;
     }
     Ok(())
 }
 
-/// Whether a warning follows from a name that the schema does not declare: no entity is of an
-/// undeclared type, and no action fits a scope that names one, so the warning would only repeat the
-/// error.
-fn follows(
-    warning: &ValidationWarning,
+// A warning follows from a name that the schema does not declare: no entity is of an undeclared
+// type, and no action fits a scope that names one, so the warning would only repeat the error.
+
+/// Whether an error is a name that the schema does not declare.
+fn has_unknown_name(errors: &BTreeMap<ValidationError, Environments>) -> bool
+    ensures { result ≡ list_any is_unknown_error (keys errors.now) }
+{
+    errors.keys().any(is_unknown_name)
+}
+
+/// Whether such an error stands in the scope of its policy.
+fn names_unknown_in_scope(
     errors: &BTreeMap<ValidationError, Environments>,
     policy: &Template,
 ) -> bool {
-    let mut unknown = errors.keys().filter(|error| is_unknown_name(error));
-    match warning {
-        ValidationWarning::ImpossiblePolicy(_) => unknown.next().is_some(),
-        ValidationWarning::InvalidActionApplication(_) => {
-            unknown.any(|error| is_in_scope(error, policy))
-        }
-    }
+    errors.keys().any(|error| is_unknown_name(error) && is_in_scope(error, policy))
 }
 
-fn is_unknown_name(error: &ValidationError) -> bool {
+fn is_unknown_name(error: &ValidationError) -> bool
+    ensures { result ≡ is_unknown_error error.now }
+{
     matches!(
         error,
         ValidationError::UnrecognizedEntityType(_) | ValidationError::UnrecognizedActionId(_)

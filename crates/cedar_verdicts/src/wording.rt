@@ -1,5 +1,9 @@
 // Wording of findings of a policy: the first ones, put into words.
-ghost use Rattle.std.specs.Prelude.{◌≡◌, ◌<◌, length, IfOk, OnOk};
+ghost use Rattle.std.specs.Prelude.{◌≡◌, ◌<◌, ◌-◌, min, true, [], length, IfOk};
+ghost use Rattle.std.specs.List.{flat_map, list_all, list_any};
+ghost use Rattle.cedar_verdicts.specs.Impossible.{calls_impossible};
+ghost use Rattle.cedar_verdicts.specs.Mistakes.{AreFirstOf, causes_in, is_one_mistake};
+ghost use Rattle.cedar_verdicts.specs.Mistakes.{says_impossible, may_say_impossible, is_of_impossible, may_be_of_impossible};
 
 use crate::causes::{Cause, Found, types_shown};
 use crate::environments::ShownEnvironments;
@@ -41,42 +45,61 @@ pub struct FirstFindings {
     pub others: usize,
 }
 
-/// The first findings in order, at most `most`. Errors that differ only in types are one finding.
+/// The first findings in order, at most `most`, and the number of the others: together they are the
+/// mistakes (clause `first`). Errors that differ only in types are one mistake.
 pub fn first_findings(
     alloc: Global,
     about: About<'_>,
     mut causes: Vec<Found<'_>>,
     most: usize,
 ) -> Result<FirstFindings, AllocError>
+    ensures first { IfOk result (AreFirstOf most causes.entry.items) }
     ensures some { IfOk result (λ findings.
         0 < most → 0 < length causes.entry.items → 0 < length findings.listed.items) }
     ensures none { IfOk result (λ findings.
         length causes.entry.items ≡ 0 → length findings.listed.items ≡ 0) }
+    ensures told { IfOk result (λ findings. findings.others ≡ 0
+        → list_any says_impossible causes.entry.items ≡ true
+        → list_any calls_impossible findings.listed.items ≡ true) }
+    ensures only { IfOk result (λ findings.
+        list_any calls_impossible findings.listed.items ≡ true
+        → list_any may_say_impossible causes.entry.items ≡ true) }
 {
     causes.sort_by_key(|it| (it.place.start, it.place.end))?;
-    let mut findings = FirstFindings {
-        listed: Vec::new(alloc),
-        others: 0,
-    };
-    let Some((first, rest)) = causes.as_slice().split_first() else {
-        return Ok(findings);
+    let mistakes = mistakes_of(alloc, causes.as_slice())?;
+    let mut findings = findings_of(alloc, about, mistakes.as_slice(), most)?;
+    findings.listed.sort()?;
+    Ok(findings)
+}
+
+/// The mistakes of causes in the order of places: each cause is one, unless it and the one before it
+/// are errors that differ only in types.
+fn mistakes_of<'a>(alloc: Global, causes: &[Found<'a>]) -> Result<Vec<Mistake<'a>>, AllocError>
+    ensures all { IfOk result (λ mistakes. flat_map causes_in mistakes.items ≡ causes.now) }
+    ensures each { IfOk result (λ mistakes. list_all is_one_mistake mistakes.items ≡ true) }
+{
+    let mut mistakes = Vec::new(alloc);
+    let Some((first, rest)) = causes.split_first() else {
+        return Ok(mistakes);
     };
     let mut mistake = Mistake::new(alloc, *first);
     for cause in rest {
         if mistake.last().is_same_mistake(cause) {
             mistake.others.push(*cause)?;
         } else {
-            add_mistake(alloc, about, &mistake, most, &mut findings)?;
+            mistakes.push(mistake)?;
             mistake = Mistake::new(alloc, *cause);
         }
     }
-    add_mistake(alloc, about, &mistake, most, &mut findings)?;
-    findings.listed.sort()?;
-    Ok(findings)
+    mistakes.push(mistake)?;
+    Ok(mistakes)
 }
 
 impl<'a> Mistake<'a> {
-    fn new(alloc: Global, first: Found<'a>) -> Mistake<'a> {
+    fn new(alloc: Global, first: Found<'a>) -> Mistake<'a>
+        ensures first { result.first ≡ first.entry }
+        ensures alone { result.others.items ≡ [] }
+    {
         Mistake {
             first,
             others: Vec::new(alloc),
@@ -88,48 +111,79 @@ impl<'a> Mistake<'a> {
     }
 }
 
-/// Adds the finding of a mistake, or counts it if there are `most` already.
-fn add_mistake(
+/// The findings of the first mistakes, at most `most`, and the number of the others.
+fn findings_of(
     alloc: Global,
     about: About<'_>,
-    mistake: &Mistake<'_>,
+    mistakes: &[Mistake<'_>],
     most: usize,
-    findings: &mut FirstFindings,
-) -> Result<(), AllocError>
-    ensures { OnOk result (0 < most → 0 < length findings.new.listed.items) }
+) -> Result<FirstFindings, AllocError>
+    ensures listed { IfOk result (λ findings.
+        length findings.listed.items ≡ min most (length mistakes.now)) }
+    ensures others { IfOk result (λ findings. findings.others ≡ length mistakes.now - most) }
+    ensures told { IfOk result (λ findings. findings.others ≡ 0
+        → list_any is_of_impossible mistakes.now ≡ true
+        → list_any calls_impossible findings.listed.items ≡ true) }
+    ensures only { IfOk result (λ findings.
+        list_any calls_impossible findings.listed.items ≡ true
+        → list_any may_be_of_impossible mistakes.now ≡ true) }
 {
-    if findings.listed.len() < most {
-        findings.listed.push(finding_of(alloc, about, mistake)?)?;
-    } else {
-        findings.others = findings.others.saturating_add(1);
+    let (first, rest) = mistakes.split_at(most.min(mistakes.len()));
+    Ok(FirstFindings {
+        listed: each_finding(alloc, about, first)?,
+        others: rest.len(),
+    })
+}
+
+/// The finding of each mistake.
+fn each_finding(
+    alloc: Global,
+    about: About<'_>,
+    mistakes: &[Mistake<'_>],
+) -> Result<Vec<Finding>, AllocError>
+    ensures each { IfOk result (λ findings. length findings.items ≡ length mistakes.now) }
+    ensures told { IfOk result (λ findings. list_any is_of_impossible mistakes.now ≡ true
+        → list_any calls_impossible findings.items ≡ true) }
+    ensures only { IfOk result (λ findings. list_any calls_impossible findings.items ≡ true
+        → list_any may_be_of_impossible mistakes.now ≡ true) }
+{
+    let mut findings = Vec::new(alloc);
+    for mistake in mistakes {
+        findings.push(finding_of(alloc, about, mistake)?)?;
     }
-    Ok(())
+    Ok(findings)
 }
 
 /// The finding of a mistake: the words of its first cause, and the types and environments of all.
-fn finding_of(
-    alloc: Global,
-    about: About<'_>,
-    mistake: &Mistake<'_>,
-) -> Result<Finding, AllocError> {
+fn finding_of(alloc: Global, about: About<'_>, mistake: &Mistake<'_>) -> Result<Finding, AllocError>
+    ensures told { IfOk result (λ finding.
+        is_of_impossible mistake.now ≡ true → calls_impossible finding ≡ true) }
+    ensures only { IfOk result (λ finding.
+        calls_impossible finding ≡ true → may_be_of_impossible mistake.now ≡ true) }
+{
     let Mistake { first, others } = mistake;
     let text = text_of(alloc, first.cause)?;
-    let place = Some(first.place);
-    let text = shortened(alloc, text)?;
-    let mut finding = Finding::new(alloc, about.policy, first.code(), place, text.as_str())?;
-    finding.hint = shortened(alloc, hint(alloc, about, first.cause)?)?;
-    finding.also = types_of(alloc, others.as_slice())?;
-    finding.environments = environments_of(alloc, about.applicable, mistake)?;
-    Ok(finding)
+    let hint = hint(alloc, about, first.cause)?;
+    Ok(Finding {
+        start: first.place.start,
+        end: first.place.end,
+        text: shortened(alloc, text)?,
+        hint: shortened(alloc, hint)?,
+        also: types_of(alloc, others.as_slice())?,
+        environments: environments_of(alloc, about.applicable, mistake)?,
+        code: first.code(),
+    })
 }
 
 fn text_of(alloc: Global, cause: Cause<'_>) -> Result<String, AllocError> {
     match cause {
         Cause::Error(error, _) => Message(error).to_string(alloc),
-        Cause::Warning(warning) | Cause::FalsePart(warning, _) => {
+        Cause::NoAction(warning) | Cause::Impossible(warning, _) => {
             Message(warning).to_string(alloc)
         }
-        Cause::Marks(_, text) | Cause::Unexplained(text) => String::from_str(alloc, text),
+        Cause::Direction(text) | Cause::LookAlike(text) | Cause::Unexplained(text) => {
+            String::from_str(alloc, text)
+        }
         Cause::SameId(Position { line, column }) => {
             format!(in alloc; "the policy at {line}:{column} of this file has the same id")
         }
@@ -141,9 +195,9 @@ fn hint(alloc: Global, about: About<'_>, cause: Cause<'_>) -> Result<String, All
         Cause::Error(error, _) => {
             hint_for_error(alloc, about.schema, about.policy, about.text, error)
         }
-        Cause::Warning(warning) => hint_for_warning(alloc, about.schema, about.policy, warning),
-        Cause::FalsePart(_, part) => hint_for_false(alloc, part.hint.as_str()),
-        Cause::Marks(_, _) | Cause::Unexplained(_) | Cause::SameId(_) => Ok(String::new(alloc)),
+        Cause::NoAction(warning) => hint_for_warning(alloc, about.schema, about.policy, warning),
+        Cause::Impossible(_, Some(part)) => hint_for_false(alloc, part.hint.as_str()),
+        _ => Ok(String::new(alloc)),
     }
 }
 
@@ -183,7 +237,7 @@ fn environments_of(
         add_environments(alloc, it.cause, &mut all)?;
     }
     match mistake.first.cause {
-        Cause::FalsePart(_, _) => all.finish(alloc, u64::MAX),
+        Cause::Impossible(_, Some(_)) => all.finish(alloc, u64::MAX),
         _ => all.finish(alloc, applicable),
     }
 }
@@ -195,7 +249,7 @@ fn add_environments(
 ) -> Result<(), AllocError> {
     match cause {
         Cause::Error(_, environments) => all.add(alloc, environments),
-        Cause::FalsePart(_, part) => all.add(alloc, &part.environments),
-        Cause::Warning(_) | Cause::Marks(_, _) | Cause::Unexplained(_) | Cause::SameId(_) => Ok(()),
+        Cause::Impossible(_, Some(part)) => all.add(alloc, &part.environments),
+        _ => Ok(()),
     }
 }
