@@ -7,8 +7,10 @@
  * Pointers must not be NULL, not even for a length of 0. `call`, `answer` and `needed` must not overlap.
  *
  * Stack: a call fits a thread with a stack of 1 MiB at the depth that it has if it asks for none, as was measured for each kind of nesting.
- * A condition that is deeper than the call allows is refused before it is checked. A text is not read if its brackets and operators are
- * nested more than 400 deep, and more than twice the depth. A call that sets "depth" higher, up to 400, needs CEDAR_STACK(depth) bytes.
+ * A policy whose condition is deeper than the call allows is refused alone, before it is checked, and the others are answered. It is not read
+ * at all if its brackets and operators nest more than four times the depth, or more than 400 deep and more than twice the depth. In JSON it is
+ * not read if its objects and lists nest more than twice the depth and 16. A call that sets "depth" higher, up to 400, needs
+ * CEDAR_STACK(depth) bytes. At a depth of 10 a call fits 256 KiB, if the types of its schema nest at most 100 deep.
  *
  * Proved, of a library that is built by a proof: each call is safe and returns, its status, `needed` and the buffer are as said
  * below; a policy that is accepted in Strict or in Permissive mode does not go wrong, at a level it needs the slice alone, and a level
@@ -40,7 +42,8 @@ uint32_t cedar_abi(void);
 /* Validates policies by a schema. `call` is a ValidationCall of Cedar's FFI, and the answer is a ValidationAnswer: the keys "schema",
  * "policies" and perhaps "validationSettings" with "mode". The settings may have three keys more: "level" (a number: a policy that may
  * dereference more entities is refused), "depth" (how deep a condition may be), and "details" (true: each error has "also" and
- * "environments", and the answer has "policies", each with "policyId", "accepted", "level" and "moreFindings"). */
+ * "environments", and the answer has "policies", each with "policyId", "accepted", "level" and "moreFindings"). Each error of an answer
+ * that is a `failure` has `of`, the text that has its place ("call", "schema" or "policies"), and `policyId`, if one policy has it. */
 uint32_t cedar_validate(const uint8_t *call, size_t call_len, uint8_t *answer, size_t answer_len, size_t *needed);
 
 /* Checks data by a schema: the keys "schema" and perhaps "entities" and "request". The answer has of each that is there whether it

@@ -2,8 +2,8 @@
 """Calls the C library from other languages: scripts/caller_cases.py [--gate] [PROGRAM].
 
 The library is built by scripts/library.py, without a proof, or with --gate by one over the libraries of scripts/prove, and
-PROGRAM is cedar_validate, by default built without a proof. It looks at what the library exports, calls it from C (sizes, odd texts, memory, four threads, each refusal of memory, and the stack of a thread
-of 1 MiB), and runs the test of each language of bindings/ that the machine has; another is skipped, which is said. Each policy
+PROGRAM is cedar_validate, by default built without a proof. It looks at what the library exports, calls it from C (sizes, odd texts, memory, four threads, each refusal of memory, and the stack of threads
+of 1 MiB and of 256 KiB), and runs the test of each language of bindings/ that the machine has; another is skipped, which is said. Each policy
 of the applications in crates/cedar_cases/data is answered as `cedar-validate --json` says it, and by a library that is proved
 byte for byte as by one that is not. The last line counts what went well and what did not.
 """
@@ -22,8 +22,9 @@ from gate.application_cases import CASES, rows
 TOP = Path(__file__).resolve().parent.parent
 BINDINGS = TOP / "bindings"
 SECONDS = 600
-# What a thread of Java has.
+# What a thread of Java has, and a small thread, which is enough at a depth of 10.
 STACK = 1024
+SMALL_STACK = 256
 FLAGS = ["-O1", "-Wall", "-Wextra", "-Werror"]
 # Where Debian keeps crates, and what lets cargo take them.
 DEBIAN = Path("/usr/share/cargo/registry")
@@ -258,6 +259,15 @@ def deep_calls():
     yield STACK, "typed-conditions", [json.dumps({"schema": SCHEMA, "policy": f"{SCOPE} when {{{condition(97)}}};"}) for condition in NESTED.values()]
     entity = {"uid": {"type": "P", "id": "x"}, "attrs": {"a": nested(390, lambda it: [it], 1)}, "parents": []}
     yield STACK, "check-data", [json.dumps({"schema": f"entity P{{a:{'Set<' * 390}Long{'>' * 390}}};", "entities": [entity]})]
+    # deeper than a call of depth 10 allows, and than it reads
+    small = [policies_of(condition(count), depth=10) for count in (9, 38, 390) for condition in NESTED.values()]
+    small += [policies_of(nested(count, negation, {"Value": True}), depth=10) for count in (9, 17, 190)]
+    for count in (20, 200):
+        many = [{"kind": "when", "body": {"Value": True}}] * count
+        small.append(json.dumps({"schema": SCHEMA, "policies": {"staticPolicies": [{**SCOPE_JSON, "conditions": many}]}, "validationSettings": {"depth": 10}}))
+    for opens, closes in (("Set<", ">"), ("{a:", "}")):
+        small.append(json.dumps({"schema": f"entity P{{a:{opens * 100}Long{closes * 100}}};", "policies": {}, "validationSettings": {"depth": 10}}))
+    yield SMALL_STACK, "validate", small
     # CEDAR_STACK(400) of cedar.h
     yield (786432 + 400 * 6144) // 1024, "validate", [policies_of(condition(396), depth=400, details=True) for condition in NESTED.values()]
 

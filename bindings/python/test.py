@@ -30,6 +30,13 @@ def deep(count):
     return SCOPE + " when {" + "(" * count + "true" + " || true)" * count + "};"
 
 
+def negated(count):
+    value = {"Value": True}
+    for _ in range(count):
+        value = {"!": {"arg": value}}
+    return value
+
+
 class Tests(unittest.TestCase):
     def test_forms_of_policies(self):
         for schema in (SCHEMA, JSON_SCHEMA):
@@ -67,10 +74,48 @@ class Tests(unittest.TestCase):
 
     def test_depth(self):
         # each disjunction is one node above the one within, and `true` is one node
-        self.assertEqual(validated({"staticPolicies": {"p": deep(9)}}, depth=10)["type"], "success")
-        self.assertEqual(validated({"staticPolicies": {"p": deep(9)}}, depth=9)["type"], "failure")
-        self.assertEqual(validated({"staticPolicies": {"p": deep(99)}})["type"], "success")
-        self.assertEqual(validated({"staticPolicies": {"p": deep(300)}})["type"], "failure")
+        self.assertEqual(codes(validated({"staticPolicies": {"p": deep(9)}}, depth=10)), [])
+        self.assertEqual(codes(validated({"staticPolicies": {"p": deep(9)}}, depth=9)), [("p", "fault")])
+        self.assertEqual(codes(validated({"staticPolicies": {"p": deep(99)}})), [])
+        self.assertEqual(codes(validated({"staticPolicies": {"p": deep(300)}})), [("p", "fault")])
+
+    def test_a_deep_policy_is_refused_alone(self):
+        # 100 disjunctions are deeper than the default, 300 nest too deep to be read, and JSON of 190 negations too
+        negations = {**BAD_JSON, "conditions": [{"kind": "when", "body": negated(190)}]}
+        for wrong in (deep(100), deep(300), negations):
+            answer = validated({"staticPolicies": {"a": BAD, "p": wrong, "z": GOOD}}, details=True)
+            self.assertEqual(sorted(codes(answer)), [("a", "unguarded-attribute"), ("p", "fault")])
+            self.assertEqual({it["policyId"]: it["accepted"] for it in answer["policies"]}, {"a": False, "p": False, "z": True})
+        # in one text, the policies around it
+        self.assertEqual(sorted(codes(validated(BAD + deep(100) + GOOD))), [("policy0", "unguarded-attribute"), ("policy1", "fault")])
+        # and the links of a template
+        link = {"templateId": "t", "newId": "l", "values": {"?principal": {"type": "U", "id": "x"}}}
+        policies = {"templates": {"t": deep(100).replace("principal,", "principal == ?principal,")}, "templateLinks": [link], "staticPolicies": {"a": BAD}}
+        self.assertEqual(sorted(codes(validated(policies))), [("a", "unguarded-attribute"), ("l", "fault"), ("t", "fault")])
+        # an id is still that of one policy
+        self.assertEqual(validated({"staticPolicies": {"t": deep(100)}, "templates": {"t": TEMPLATE}})["type"], "failure")
+
+    def test_reading_is_bounded_by_the_depth(self):
+        for count, wanted in ((8, []), (45, [("p", "fault")])):
+            negation = SCOPE + " when {" + "!(" * count + "true" + ")" * count + "};"
+            self.assertEqual(codes(validated({"staticPolicies": {"p": negation}}, depth=10)), wanted)
+            self.assertEqual(codes(validated({"staticPolicies": {"p": {**BAD_JSON, "conditions": [{"kind": "when", "body": negated(count)}]}}}, depth=10)), wanted)
+
+    def test_faults_say_their_text(self):
+        def told(schema, policies):
+            return [(it["of"], it.get("policyId")) for it in validated(policies, schema)["errors"]]
+        self.assertEqual(told("entity", ""), [("schema", None)])
+        self.assertEqual(told({"": 1}, ""), [("schema", None)])
+        self.assertEqual(told(SCHEMA, {"staticPolicies": {"z": "permit"}}), [("policies", "z")])
+        self.assertEqual(told(SCHEMA, GOOD + "permit(principal,action,resource) when { 1 + };"), [("policies", "policy1")])
+        self.assertEqual(told("entity", {"staticPolicies": {"z": "permit"}}), [("schema", None), ("policies", "z")])
+        self.assertEqual(told(1, ""), [("call", None)])
+        self.assertEqual([it["of"] for it in cedar.check_data({"schema": "entity"})["errors"]], ["schema"])
+        self.assertEqual([(it["of"], it.get("policyId")) for it in cedar.typed_conditions({"schema": SCHEMA, "policy": deep(100)})["errors"]], [("policies", "policy0")])
+
+    def test_modes(self):
+        for mode in ("strict", "Strict", "permissive", "Permissive"):
+            self.assertEqual(codes(validated({"staticPolicies": {"p": GOOD}}, mode=mode)), [])
 
     def test_failures(self):
         wrong = ["", "{", "[]", "{}", '{"schema":1,"policies":{}}', '{"schema":"","policies":{},"x":1}', "\0", '{"schema":"entity","policies":"permit"}', '"\\ud800"',

@@ -1,9 +1,9 @@
 // Answers of calls, as texts of JSON.
 use crate::answered::Answered;
+use crate::faults::CallFault;
 use crate::writer::Answer;
 use cedar_findings::codes::Code;
 use cedar_findings::data_findings::DataVerdict;
-use cedar_findings::faults::TextFault;
 use cedar_findings::findings::{Finding, Requirement, Severity, Verdict};
 use cedar_types::base::Loc;
 use std::alloc::{AllocError, Global};
@@ -85,6 +85,42 @@ impl Answer {
             self.texts_at("also", &finding.also)?;
             self.texts_at("environments", &finding.environments)?;
         }
+        self.end_object()
+    }
+
+    /// Adds the members of a fault, as a detailed error whose object was begun.
+    fn add_fault(&mut self, it: &CallFault) -> Result<(), AllocError> {
+        self.add_detailed(Detailed {
+            text: it.fault.text.as_str(),
+            hint: "",
+            code: Code::Fault,
+            severity: Severity::Error,
+            place: Some(it.fault.place),
+        })
+    }
+
+    /// Adds the error of a policy that is refused alone.
+    fn add_refused(&mut self, it: &CallFault, has_details: bool) -> Result<(), AllocError> {
+        self.begin_object()?;
+        self.text_at("policyId", id_of(it))?;
+        self.begin_object_at("error")?;
+        self.add_fault(it)?;
+        self.end_object()?;
+        if has_details {
+            self.begin_list_at("also")?;
+            self.end_list()?;
+            self.begin_list_at("environments")?;
+            self.end_list()?;
+        }
+        self.end_object()
+    }
+
+    /// Adds that a policy is refused, whose level is not known.
+    fn add_refusal(&mut self, it: &CallFault) -> Result<(), AllocError> {
+        self.begin_object()?;
+        self.text_at("policyId", id_of(it))?;
+        self.boolean_at("accepted", false)?;
+        self.number_at("moreFindings", 0)?;
         self.end_object()
     }
 
@@ -176,14 +212,26 @@ fn severity_of_rest(verdict: &Verdict) -> Severity {
     }
 }
 
-/// The answer of a call whose policies were judged.
+/// The id of the policy that has a fault; empty if no policy alone has it.
+fn id_of(it: &CallFault) -> &str {
+    match &it.policy {
+        Some(id) => id.as_str(),
+        None => "",
+    }
+}
+
+/// The answer of a call whose policies were judged, but those that are refused alone.
 pub fn success(
     alloc: Global,
     all: &[Answered<'_>],
+    refused: &Vec<CallFault>,
     has_details: bool,
 ) -> Result<String, AllocError> {
     let mut answer = Answer::begin(alloc, "success")?;
     answer.begin_list_at("validationErrors")?;
+    for it in refused {
+        answer.add_refused(it, has_details)?;
+    }
     for it in all {
         answer.add_findings(it, Severity::Error, has_details)?;
     }
@@ -197,6 +245,9 @@ pub fn success(
     answer.end_list()?;
     if has_details {
         answer.begin_list_at("policies")?;
+        for it in refused {
+            answer.add_refusal(it)?;
+        }
         for it in all {
             answer.add_verdict(it)?;
         }
@@ -206,18 +257,16 @@ pub fn success(
 }
 
 /// The answer of a call that cannot be answered, because of these faults.
-pub fn failure(alloc: Global, faults: &Vec<TextFault>) -> Result<String, AllocError> {
+pub fn failure(alloc: Global, faults: &Vec<CallFault>) -> Result<String, AllocError> {
     let mut answer = Answer::begin(alloc, "failure")?;
     answer.begin_list_at("errors")?;
     for fault in faults {
         answer.begin_object()?;
-        answer.add_detailed(Detailed {
-            text: fault.text.as_str(),
-            hint: "",
-            code: Code::Fault,
-            severity: Severity::Error,
-            place: Some(fault.place),
-        })?;
+        answer.add_fault(fault)?;
+        answer.text_at("of", fault.origin.word())?;
+        if let Some(id) = &fault.policy {
+            answer.text_at("policyId", id.as_str())?;
+        }
         answer.end_object()?;
     }
     answer.end_list()?;

@@ -10,7 +10,7 @@ ghost use Rattle.cedar_calls.specs.Answers.{IsRightAnswer, IsWholeAnswer};
 use crate::answered::{Answered, judge_one};
 use crate::answers::failure;
 use crate::expressions::ExpressionWriter;
-use crate::faults::only_fault;
+use crate::faults::{CallFault, only_fault, schema_faults};
 use crate::given::Given;
 use crate::policies::PolicyReader;
 use crate::schemas::schema_of;
@@ -18,7 +18,6 @@ use crate::settings::Asked;
 use crate::writer::Answer;
 use cedar_extensions::checks::Constructor;
 use cedar_extensions::functions::{Checks, functions, overloaded_types};
-use cedar_findings::faults::TextFault;
 use cedar_findings::findings::Severity;
 use cedar_host::conditions::{TypedCondition, typed_conditions};
 use cedar_json::{FormError, Object, Value, expected, value_alone};
@@ -117,7 +116,7 @@ fn read_call(
     alloc: Global,
     functions: &ExtensionSchemas,
     text: &str,
-) -> Result<Result<ConditionsCall, Vec<TextFault>>, FormError> {
+) -> Result<Result<ConditionsCall, Vec<CallFault>>, FormError> {
     let root = value_alone(alloc, text)?;
     let object = Object::of(&root)?;
     object.allow(&["validationSettings", "schema", "policy"])?;
@@ -137,7 +136,7 @@ fn read_call(
         Err(faults) => return Ok(Err(faults)),
     };
     match schema_of(alloc, text, schema)? {
-        Err(faults) => Ok(Err(faults)),
+        Err(faults) => Ok(Err(schema_faults(alloc, faults)?)),
         Ok(schema) => Ok(Ok(ConditionsCall {
             mode,
             schema,

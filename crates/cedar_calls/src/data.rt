@@ -1,6 +1,6 @@
 //! The call that checks entities and a request by a schema.
 use crate::answers::failure;
-use crate::faults::only_fault;
+use crate::faults::{only_fault, schema_faults};
 use crate::schemas::{schema_of, text_at};
 use crate::writer::Answer;
 use cedar_findings::data_findings::DataVerdict;
@@ -30,7 +30,10 @@ fn answer_of(alloc: Global, call: &str) -> Result<String, FormError> {
     let schema = object.need("schema")?;
     let schema = match schema_of(alloc, call, schema)? {
         Ok(schema) => schema,
-        Err(faults) => return Ok(failure(alloc, &faults)?),
+        Err(faults) => {
+            let faults = schema_faults(alloc, faults)?;
+            return Ok(failure(alloc, &faults)?);
+        }
     };
     let entities = object.given("entities");
     let entities = judged(alloc, &schema, call, DataKind::Entities, entities)?;

@@ -9,7 +9,7 @@ pub mod conditions;
 pub mod data;
 mod depths;
 mod expressions;
-mod faults;
+pub mod faults;
 mod forms;
 pub mod given;
 mod links;

@@ -10,6 +10,8 @@ use std::rc::RcStr;
 
 const NO_TEMPLATE: &str = "there is no template of its `templateId`";
 
+const REFUSED_TEMPLATE: &str = "its template is refused";
+
 const UNFIT: &str = "the link does not bind the slots of its template";
 
 /// Reads an object that binds the keys `?principal` and `?resource`. It fails at another key, and
@@ -50,7 +52,14 @@ impl PolicyReader<'_, '_> {
         let id = text_of(object.need("newId")?)?;
         let values = object.need("values")?;
         let bound = read_bound(self.alloc, values)?;
-        match self.link(given, template, id, &bound)? {
+        let name = RcStr::from_str(self.alloc, template)?;
+        if given.refused_ids.contains(&name) {
+            if given.note_id(self.alloc, id, NOWHERE)? {
+                given.refuse_alone(self.alloc, id, NOWHERE, REFUSED_TEMPLATE)?;
+            }
+            return Ok(());
+        }
+        match self.link(given, &name, id, &bound)? {
             Ok(policy) => self.add(given, id, policy, Part::Policy)?,
             Err(why) => {
                 let fault = policy_fault(self.alloc, id, NOWHERE, why)?;
@@ -65,12 +74,11 @@ impl PolicyReader<'_, '_> {
     fn link(
         &self,
         given: &GivenPolicies,
-        template: &str,
+        template: &RcStr,
         id: &str,
         bound: &Bound,
     ) -> Result<Result<Given, &'static str>, AllocError> {
-        let name = RcStr::from_str(self.alloc, template)?;
-        let Some(template) = given.template(&name) else {
+        let Some(template) = given.template(template) else {
             return Ok(Err(NO_TEMPLATE));
         };
         let examples = template.examples.clone()?;

@@ -8,11 +8,62 @@ const MOST: u32 = 400;
 /// The number of conditions of a policy that fits such a thread.
 const MOST_CONDITIONS: u32 = 200;
 
-/// Whether a text nests too deep to be read, if conditions may have this depth. Each node of a
-/// condition nests at most twice, by an operator and by parentheses.
+/// The objects and lists of a policy in JSON that stand around each condition or behind the last
+/// of its expressions.
+const AROUND: u32 = 16;
+
+/// The nesting of a text that is read, if conditions may have this depth. Each node of a condition
+/// nests at most twice, by an operator and by parentheses, and as many parentheses more may stand
+/// in a text, as far as they fit a thread of 1 MiB.
+fn most_nesting(depth: u32) -> u32 {
+    let twice = depth.saturating_mul(2);
+    MOST.max(twice).min(twice.saturating_mul(2))
+}
+
+/// Whether a text nests too deep to be read, if conditions may have this depth.
 pub fn is_too_nested(alloc: Global, text: &str, depth: u32) -> Result<bool, AllocError> {
-    let most = MOST.max(depth.saturating_mul(2));
-    Ok(nesting_of(alloc, text)? > most)
+    Ok(nesting_of(alloc, text)? > most_nesting(depth))
+}
+
+/// Whether a policy in Cedar's form of JSON nests too deep to be read, if conditions may have this
+/// depth. Each node of a condition nests by at most two objects or lists. The walk goes down by one
+/// generation of values after another, so the nesting takes no stack.
+pub fn is_value_too_nested(alloc: Global, policy: &Value, depth: u32) -> Result<bool, AllocError> {
+    let mut generation = Vec::new(alloc);
+    generation.push(policy)?;
+    for _ in 0..depth.saturating_mul(2).saturating_add(AROUND) {
+        generation = values_in(alloc, &generation)?;
+        if generation.is_empty() {
+            return Ok(false);
+        }
+    }
+    Ok(true)
+}
+
+/// The values that stand in these.
+fn values_in<'a>(alloc: Global, values: &Vec<&'a Value>) -> Result<Vec<&'a Value>, AllocError> {
+    let mut found = Vec::new(alloc);
+    for value in values {
+        add_values(&mut found, *value)?;
+    }
+    Ok(found)
+}
+
+fn add_values<'a>(found: &mut Vec<&'a Value>, value: &'a Value) -> Result<(), AllocError> {
+    match &value.kind {
+        ValueKind::Array(items) => {
+            for item in items {
+                found.push(item)?;
+            }
+        }
+        ValueKind::Object(entries) => {
+            for (_key, entry) in entries {
+                found.push(entry)?;
+            }
+        }
+        _ => {}
+    }
+    Ok(())
 }
 
 /// Whether a policy in Cedar's form of JSON has too many conditions to be read, if conditions may
@@ -25,9 +76,13 @@ pub fn has_too_many_conditions(policy: Object<'_>, depth: u32) -> bool {
                 kind: ValueKind::Array(items),
                 ..
             },
-        ) => items.len() as u64 > u64::from(MOST_CONDITIONS.max(depth)),
+        ) => items.len() as u64 > u64::from(most_conditions(depth)),
         _ => false,
     }
+}
+
+fn most_conditions(depth: u32) -> u32 {
+    MOST_CONDITIONS.max(depth).min(depth.saturating_mul(2))
 }
 
 /// The kind of text in which a character stands.

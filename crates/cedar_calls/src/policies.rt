@@ -1,9 +1,9 @@
 // Reads the policies of a call: a text of all, a list, an object by ids, or a policy set with
 // static policies, templates and links.
 use crate::depths::is_within;
-use crate::faults::policy_fault;
+use crate::faults::{CallFault, Origin, policy_fault};
 use crate::given::{Given, GivenPolicies, NOWHERE};
-use crate::nesting::{has_too_many_conditions, is_too_nested};
+use crate::nesting::{has_too_many_conditions, is_too_nested, is_value_too_nested};
 use crate::schemas::text_at;
 use cedar_findings::faults::TextFault;
 use cedar_json::{FormError, Key, Object, Value, ValueKind, expected};
@@ -14,8 +14,6 @@ use std::rc::RcStr;
 
 const NOT_ONE: &str = "one policy is expected";
 
-const SAME_ID: &str = "another policy has this id";
-
 const STATIC_SLOT: &str = "a policy with a slot has to stand among the templates";
 
 const NO_SLOT: &str = "a template has a slot";
@@ -24,10 +22,6 @@ const TOO_DEEP: &str = "its condition is deeper than the `depth` of the call";
 
 const TOO_NESTED: &str =
     "nested too deep for the `depth` of the call: too many brackets and operators inside each other";
-
-const NO_TEMPLATE: &str = "there is no template of its `templateId`";
-
-const UNFIT: &str = "the link does not bind the slots of its template";
 
 /// The part of a policy set that a policy is of.
 #[derive(Clone, Copy, PartialEq, Eq)]
@@ -38,6 +32,15 @@ pub enum Part {
     Template,
     /// A static policy, a link or a template.
     Any,
+}
+
+/// What was read of one policy.
+#[derive(Drop)]
+enum Reading {
+    Policy(Given),
+    Fault(TextFault),
+    /// The policy nests too deep to be read.
+    TooNested,
 }
 
 /// Reads the policies of a call.
@@ -80,11 +83,12 @@ impl PolicyReader<'_, '_> {
         &self,
         id: &str,
         value: &Value,
-    ) -> Result<Result<Given, Vec<TextFault>>, FormError> {
+    ) -> Result<Result<Given, Vec<CallFault>>, FormError> {
         let mut given = GivenPolicies::new(self.alloc);
         self.add_one(&mut given, id, value, Part::Any)?;
         match given.policies.pop() {
             Some(policy) => Ok(Ok(policy)),
+            None if given.faults.is_empty() => Ok(Err(given.refused)),
             None => Ok(Err(given.faults)),
         }
     }
@@ -126,9 +130,21 @@ impl PolicyReader<'_, '_> {
 
     /// Adds the policies of one text in Cedar's own syntax, each with its number as its id.
     fn add_text(&self, given: &mut GivenPolicies, text: &RcStr) -> Result<(), AllocError> {
-        let mut read = match self.begin(text)? {
+        if is_too_nested(self.alloc, text.as_str(), self.depth)? {
+            let fault = self.fault(TOO_NESTED)?;
+            given
+                .faults
+                .push(CallFault::of_text(Origin::Policies, fault))?;
+            return Ok(());
+        }
+        let mut read = match Policies::of_text(self.alloc, self.functions, text.as_str())? {
             Ok(read) => read,
-            Err(fault) => return Ok(given.faults.push(fault)?),
+            Err(fault) => {
+                given
+                    .faults
+                    .push(CallFault::of_text(Origin::Policies, fault))?;
+                return Ok(());
+            }
         };
         for number in 0..read.most() {
             let Some(next) = read.give(self.alloc, self.functions)? else {
@@ -137,15 +153,6 @@ impl PolicyReader<'_, '_> {
             self.add_numbered(given, number, next, text)?;
         }
         Ok(())
-    }
-
-    /// The policies of a text in Cedar's own syntax, or the fault that the text has as a whole. A
-    /// text that nests too deep is not read.
-    fn begin<'t>(&self, text: &'t RcStr) -> Result<Result<Policies<'t>, TextFault>, AllocError> {
-        if is_too_nested(self.alloc, text.as_str(), self.depth)? {
-            return Ok(Err(self.fault(TOO_NESTED)?));
-        }
-        Policies::of_text(self.alloc, self.functions, text.as_str())
     }
 
     fn add_numbered(
@@ -158,7 +165,12 @@ impl PolicyReader<'_, '_> {
         let alloc = self.alloc;
         let id = format!(in alloc; "policy{number}")?;
         match read {
-            Read::Fault(fault) => Ok(given.faults.push(fault)?),
+            Read::Fault(fault) => {
+                given
+                    .faults
+                    .push(CallFault::of_policy(alloc, id.as_str(), fault)?)?;
+                Ok(())
+            }
             Read::Policy(policy, _marks) => {
                 let examples = text.clone()?;
                 self.add(given, id.as_str(), Given { policy, examples }, Part::Policy)
@@ -179,27 +191,37 @@ impl PolicyReader<'_, '_> {
             _ => self.only_of_json(value)?,
         };
         match read {
-            Ok(policy) => self.add(given, id, policy, part)?,
-            Err(TextFault { place, text }) => {
+            Reading::Policy(policy) => self.add(given, id, policy, part)?,
+            Reading::Fault(TextFault { place, text }) => {
                 let fault = policy_fault(self.alloc, id, place, text.as_str())?;
                 given.faults.push(fault)?;
+            }
+            Reading::TooNested => {
+                if given.note_id(self.alloc, id, NOWHERE)? {
+                    given.refuse_alone(self.alloc, id, NOWHERE, TOO_NESTED)?;
+                }
             }
         }
         Ok(())
     }
 
-    fn only_of_text(&self, text: &RcStr) -> Result<Result<Given, TextFault>, AllocError> {
-        match self.begin(text)? {
+    fn only_of_text(&self, text: &RcStr) -> Result<Reading, AllocError> {
+        if is_too_nested(self.alloc, text.as_str(), self.depth)? {
+            return Ok(Reading::TooNested);
+        }
+        match Policies::of_text(self.alloc, self.functions, text.as_str())? {
             Ok(policies) => self.only_of(policies, text.clone()?),
-            Err(fault) => Ok(Err(fault)),
+            Err(fault) => Ok(Reading::Fault(fault)),
         }
     }
 
-    fn only_of_json(&self, value: &Value) -> Result<Result<Given, TextFault>, FormError> {
+    fn only_of_json(&self, value: &Value) -> Result<Reading, FormError> {
         let object = Object::of(value)?;
         object.need("effect")?;
-        if has_too_many_conditions(object, self.depth) {
-            return Ok(Err(self.fault(TOO_NESTED)?));
+        if has_too_many_conditions(object, self.depth)
+            || is_value_too_nested(self.alloc, value, self.depth)?
+        {
+            return Ok(Reading::TooNested);
         }
         let text = text_at(self.call, value.place);
         match Policies::of_json(self.alloc, self.functions, text)? {
@@ -207,25 +229,21 @@ impl PolicyReader<'_, '_> {
                 let examples = RcStr::from_str(self.alloc, "")?;
                 Ok(self.only_of(policies, examples)?)
             }
-            Err(fault) => Ok(Err(fault)),
+            Err(fault) => Ok(Reading::Fault(fault)),
         }
     }
 
     /// The only policy of these, or a fault if there is none, if there is more than one, or if the
     /// first cannot be read.
-    fn only_of(
-        &self,
-        mut policies: Policies<'_>,
-        examples: RcStr,
-    ) -> Result<Result<Given, TextFault>, AllocError> {
+    fn only_of(&self, mut policies: Policies<'_>, examples: RcStr) -> Result<Reading, AllocError> {
         let policy = match policies.give(self.alloc, self.functions)? {
             Some(Read::Policy(policy, _marks)) => policy,
-            Some(Read::Fault(fault)) => return Ok(Err(fault)),
-            None => return Ok(Err(self.fault(NOT_ONE)?)),
+            Some(Read::Fault(fault)) => return Ok(Reading::Fault(fault)),
+            None => return Ok(Reading::Fault(self.fault(NOT_ONE)?)),
         };
         match policies.give(self.alloc, self.functions)? {
-            None => Ok(Ok(Given { policy, examples })),
-            Some(_other) => Ok(Err(self.fault(NOT_ONE)?)),
+            None => Ok(Reading::Policy(Given { policy, examples })),
+            Some(_other) => Ok(Reading::Fault(self.fault(NOT_ONE)?)),
         }
     }
 
@@ -237,7 +255,8 @@ impl PolicyReader<'_, '_> {
         })
     }
 
-    /// Adds a policy of this part under this id, or the reason that it cannot be judged.
+    /// Adds a policy of this part under this id, or the reason that it cannot be judged. A policy
+    /// that is too deep is refused alone.
     pub fn add(
         &self,
         given: &mut GivenPolicies,
@@ -245,9 +264,12 @@ impl PolicyReader<'_, '_> {
         mut added: Given,
         part: Part,
     ) -> Result<(), AllocError> {
-        let name = RcStr::from_str(self.alloc, id)?;
-        if !given.ids.insert(name)? {
-            return given.refuse(self.alloc, id, &added.policy, SAME_ID);
+        let place = added.policy.loc.unwrap_or(NOWHERE);
+        if !given.note_id(self.alloc, id, place)? {
+            return Ok(());
+        }
+        if !is_within(self.alloc, &added.policy, self.depth)? {
+            return given.refuse_alone(self.alloc, id, place, TOO_DEEP);
         }
         if let Some(why) = self.why_refused(&added.policy, part)? {
             return given.refuse(self.alloc, id, &added.policy, why);
@@ -268,9 +290,6 @@ impl PolicyReader<'_, '_> {
         policy: &Template,
         part: Part,
     ) -> Result<Option<&'static str>, AllocError> {
-        if !is_within(self.alloc, policy, self.depth)? {
-            return Ok(Some(TOO_DEEP));
-        }
         let has_slot = has_slot(self.alloc, policy)?;
         match part {
             Part::Policy if has_slot => Ok(Some(STATIC_SLOT)),

@@ -52,9 +52,9 @@ impl Asked {
 
 fn mode_of(value: &Value) -> Result<ValidationMode, FormError> {
     match text_of(value)? {
-        "strict" => Ok(ValidationMode::Strict),
-        "permissive" => Ok(ValidationMode::Permissive),
-        "partial" => Ok(ValidationMode::Partial),
+        "strict" | "Strict" => Ok(ValidationMode::Strict),
+        "permissive" | "Permissive" => Ok(ValidationMode::Permissive),
+        "partial" | "Partial" => Ok(ValidationMode::Partial),
         _ => Err(expected(value, "`strict`, `permissive` or `partial`")),
     }
 }

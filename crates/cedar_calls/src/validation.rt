@@ -2,14 +2,13 @@
 //! `ValidationAnswer` answers.
 use crate::answered::judge_all;
 use crate::answers::{failure, success};
-use crate::faults::{add_all, only_fault};
+use crate::faults::{CallFault, add_all, only_fault, schema_faults};
 use crate::given::Given;
 use crate::policies::PolicyReader;
 use crate::schemas::schema_of;
 use crate::settings::Asked;
 use cedar_extensions::checks::Constructor;
 use cedar_extensions::functions::{Checks, functions, overloaded_types};
-use cedar_findings::faults::TextFault;
 use cedar_json::{FormError, Object, value_alone};
 use cedar_typechecker::rbac::Validator;
 use cedar_types::base::{ExtensionSchemas, ValidatorSchema};
@@ -23,6 +22,8 @@ pub struct ValidationCall {
     pub schema: ValidatorSchema,
     /// The static policies, the templates and then the links.
     pub given: Vec<Given>,
+    /// A fault for each policy that is refused alone, because it is too deep to be judged.
+    pub refused: Vec<CallFault>,
 }
 
 impl ValidationCall {
@@ -33,7 +34,7 @@ impl ValidationCall {
         alloc: Global,
         functions: &ExtensionSchemas,
         text: &str,
-    ) -> Result<Result<ValidationCall, Vec<TextFault>>, AllocError> {
+    ) -> Result<Result<ValidationCall, Vec<CallFault>>, AllocError> {
         match read_call(alloc, functions, text) {
             Ok(read) => Ok(read),
             Err(error) => Ok(Err(only_fault(alloc, text, error)?)),
@@ -46,6 +47,7 @@ impl ValidationCall {
             asked,
             schema,
             given,
+            refused,
         } = self;
         let validator = Validator::new(schema, functions);
         let settings = Settings {
@@ -55,7 +57,7 @@ impl ValidationCall {
             syntax: None,
         };
         let all = judge_all(alloc, &settings, given.as_slice())?;
-        success(alloc, all.as_slice(), asked.has_details)
+        success(alloc, all.as_slice(), &refused, asked.has_details)
     }
 }
 
@@ -63,7 +65,7 @@ fn read_call(
     alloc: Global,
     functions: &ExtensionSchemas,
     text: &str,
-) -> Result<Result<ValidationCall, Vec<TextFault>>, FormError> {
+) -> Result<Result<ValidationCall, Vec<CallFault>>, FormError> {
     let root = value_alone(alloc, text)?;
     let object = Object::of(&root)?;
     object.allow(&["validationSettings", "schema", "policies"])?;
@@ -80,7 +82,8 @@ fn read_call(
     let given = reader.read_all(policies)?;
     let schema = match schema_of(alloc, text, schema)? {
         Ok(schema) => schema,
-        Err(mut faults) => {
+        Err(faults) => {
+            let mut faults = schema_faults(alloc, faults)?;
             add_all(&mut faults, given.faults)?;
             return Ok(Err(faults));
         }
@@ -92,6 +95,7 @@ fn read_call(
         asked,
         schema,
         given: given.policies,
+        refused: given.refused,
     }))
 }
 
