@@ -12,6 +12,7 @@ use crate::answers::failure;
 use crate::expressions::ExpressionWriter;
 use crate::faults::{CallFault, only_fault, schema_faults};
 use crate::given::Given;
+use crate::opened::Opened;
 use crate::policies::PolicyReader;
 use crate::schemas::schema_of;
 use crate::settings::Asked;
@@ -90,6 +91,24 @@ pub fn conditions_of<'a, C: ArgumentCheck>(
 /// each environment with its condition in Cedar's own form of JSON. The answer is `failure` if the
 /// text is no call, or if its schema or its policy cannot be read. It fails if memory is refused.
 pub fn conditions_call(alloc: Global, call: &str) -> Result<String, AllocError> {
+    conditions_answer(alloc, None, call)
+}
+
+/// Answers a call that asks for typed conditions by a schema which was opened, as
+/// [`conditions_call`] does, but that the call has no `schema`.
+pub fn conditions_call_by(
+    alloc: Global,
+    opened: &Opened,
+    call: &str,
+) -> Result<String, AllocError> {
+    conditions_answer(alloc, Some(opened), call)
+}
+
+fn conditions_answer(
+    alloc: Global,
+    opened: Option<&Opened>,
+    call: &str,
+) -> Result<String, AllocError> {
     // (the boxes are made here, because a function that returned them would hide their checks)
     let checks = Checks {
         ip: Box::new(alloc, Constructor::Ip.check(alloc))?,
@@ -102,7 +121,7 @@ pub fn conditions_call(alloc: Global, call: &str) -> Result<String, AllocError> 
     let Ok(functions) = ExtensionSchemas::new(functions, overloaded) else {
         return failure(alloc, &Vec::new(alloc));
     };
-    let read = match read_call(alloc, &functions, call) {
+    let read = match read_call(alloc, &functions, opened, call) {
         Ok(read) => read,
         Err(error) => Err(only_fault(alloc, call, error)?),
     };
@@ -115,11 +134,15 @@ pub fn conditions_call(alloc: Global, call: &str) -> Result<String, AllocError> 
 fn read_call(
     alloc: Global,
     functions: &ExtensionSchemas,
+    opened: Option<&Opened>,
     text: &str,
 ) -> Result<Result<ConditionsCall, Vec<CallFault>>, FormError> {
     let root = value_alone(alloc, text)?;
     let object = Object::of(&root)?;
-    object.allow(&["validationSettings", "schema", "policy"])?;
+    match opened {
+        Some(_opened) => object.allow(&["validationSettings", "policy"])?,
+        None => object.allow(&["validationSettings", "schema", "policy"])?,
+    }
     let settings = object.given("validationSettings");
     let asked = Asked::read(settings)?;
     let mode = sound_mode(asked.mode, settings)?;
@@ -129,13 +152,16 @@ fn read_call(
         functions,
         depth: asked.depth,
     };
-    let schema = object.need("schema")?;
     let policy = object.need("policy")?;
     let given = match reader.read_one("policy0", policy)? {
         Ok(given) => given,
         Err(faults) => return Ok(Err(faults)),
     };
-    match schema_of(alloc, text, schema)? {
+    let schema = match opened {
+        Some(opened) => Ok(opened.copy(alloc)?),
+        None => schema_of(alloc, text, object.need("schema")?)?,
+    };
+    match schema {
         Err(faults) => Ok(Err(schema_faults(alloc, faults)?)),
         Ok(schema) => Ok(Ok(ConditionsCall {
             mode,

@@ -1,6 +1,7 @@
 //! The call that checks entities and a request by a schema.
 use crate::answers::failure;
 use crate::faults::{only_fault, schema_faults};
+use crate::opened::Opened;
 use crate::schemas::{schema_of, text_at};
 use crate::writer::Answer;
 use cedar_findings::data_findings::DataVerdict;
@@ -14,13 +15,39 @@ use std::alloc::{AllocError, Global};
 /// schema, and its mistakes, whose places are in that part. The answer is `failure` if the text is
 /// no call, or if the schema cannot be read. It fails if memory is refused.
 pub fn check_data_call(alloc: Global, call: &str) -> Result<String, AllocError> {
-    match answer_of(alloc, call) {
+    answer_or_failure(alloc, call, answer_of(alloc, call))
+}
+
+/// Answers a call that checks data by a schema which was opened, as [`check_data_call`] does, but
+/// that the call has no `schema`.
+pub fn check_data_call_by(
+    alloc: Global,
+    opened: &Opened,
+    call: &str,
+) -> Result<String, AllocError> {
+    answer_or_failure(alloc, call, answer_by(alloc, opened, call))
+}
+
+/// The answer, or `failure` for a text that is no call.
+fn answer_or_failure(
+    alloc: Global,
+    call: &str,
+    answer: Result<String, FormError>,
+) -> Result<String, AllocError> {
+    match answer {
         Ok(answer) => Ok(answer),
         Err(error) => {
             let faults = only_fault(alloc, call, error)?;
             failure(alloc, &faults)
         }
     }
+}
+
+fn answer_by(alloc: Global, opened: &Opened, call: &str) -> Result<String, FormError> {
+    let root = value_alone(alloc, call)?;
+    let object = Object::of(&root)?;
+    object.allow(&["entities", "request"])?;
+    Ok(checked(alloc, &opened.schema, call, object)?)
 }
 
 fn answer_of(alloc: Global, call: &str) -> Result<String, FormError> {
@@ -35,11 +62,21 @@ fn answer_of(alloc: Global, call: &str) -> Result<String, FormError> {
             return Ok(failure(alloc, &faults)?);
         }
     };
+    Ok(checked(alloc, &schema, call, object)?)
+}
+
+/// The answer on the data of a call.
+fn checked(
+    alloc: Global,
+    schema: &ValidatorSchema,
+    call: &str,
+    object: Object<'_>,
+) -> Result<String, AllocError> {
     let entities = object.given("entities");
-    let entities = judged(alloc, &schema, call, DataKind::Entities, entities)?;
+    let entities = judged(alloc, schema, call, DataKind::Entities, entities)?;
     let request = object.given("request");
-    let request = judged(alloc, &schema, call, DataKind::Request, request)?;
-    Ok(written(alloc, &entities, &request)?)
+    let request = judged(alloc, schema, call, DataKind::Request, request)?;
+    written(alloc, &entities, &request)
 }
 
 /// The verdict on a part of a call, if the call has the part.

@@ -4,6 +4,7 @@ use crate::answered::judge_all;
 use crate::answers::{failure, success};
 use crate::faults::{CallFault, add_all, only_fault, schema_faults};
 use crate::given::Given;
+use crate::opened::Opened;
 use crate::policies::PolicyReader;
 use crate::schemas::schema_of;
 use crate::settings::Asked;
@@ -28,14 +29,16 @@ pub struct ValidationCall {
 
 impl ValidationCall {
     /// Reads a call, an object of `schema`, `policies` and perhaps `validationSettings`, or gives
-    /// all faults of its schema and its policies, or the first fault of its form. Calls in policies
-    /// are of these functions. It fails if memory is refused.
+    /// all faults of its schema and its policies, or the first fault of its form. A call by a
+    /// schema that was opened has no `schema`. Calls in policies are of these functions. It fails
+    /// if memory is refused.
     pub fn read(
         alloc: Global,
         functions: &ExtensionSchemas,
+        opened: Option<&Opened>,
         text: &str,
     ) -> Result<Result<ValidationCall, Vec<CallFault>>, AllocError> {
-        match read_call(alloc, functions, text) {
+        match read_call(alloc, functions, opened, text) {
             Ok(read) => Ok(read),
             Err(error) => Ok(Err(only_fault(alloc, text, error)?)),
         }
@@ -64,11 +67,15 @@ impl ValidationCall {
 fn read_call(
     alloc: Global,
     functions: &ExtensionSchemas,
+    opened: Option<&Opened>,
     text: &str,
 ) -> Result<Result<ValidationCall, Vec<CallFault>>, FormError> {
     let root = value_alone(alloc, text)?;
     let object = Object::of(&root)?;
-    object.allow(&["validationSettings", "schema", "policies"])?;
+    match opened {
+        Some(_opened) => object.allow(&["validationSettings", "policies"])?,
+        None => object.allow(&["validationSettings", "schema", "policies"])?,
+    }
     let settings = object.given("validationSettings");
     let asked = Asked::read(settings)?;
     let reader = PolicyReader {
@@ -77,10 +84,13 @@ fn read_call(
         functions,
         depth: asked.depth,
     };
-    let schema = object.need("schema")?;
     let policies = object.need("policies")?;
     let given = reader.read_all(policies)?;
-    let schema = match schema_of(alloc, text, schema)? {
+    let schema = match opened {
+        Some(opened) => Ok(opened.copy(alloc)?),
+        None => schema_of(alloc, text, object.need("schema")?)?,
+    };
+    let schema = match schema {
         Ok(schema) => schema,
         Err(faults) => {
             let mut faults = schema_faults(alloc, faults)?;
@@ -103,6 +113,16 @@ fn read_call(
 /// for each text: `failure` if it is no call, or if its schema or one of its policies cannot be
 /// read. It fails if memory is refused.
 pub fn validate_call(alloc: Global, call: &str) -> Result<String, AllocError> {
+    validated(alloc, None, call)
+}
+
+/// Answers a call that validates policies by a schema which was opened, as [`validate_call`] does,
+/// but that the call has no `schema`.
+pub fn validate_call_by(alloc: Global, opened: &Opened, call: &str) -> Result<String, AllocError> {
+    validated(alloc, Some(opened), call)
+}
+
+fn validated(alloc: Global, opened: Option<&Opened>, call: &str) -> Result<String, AllocError> {
     // (the boxes are made here, because a function that returned them would hide their checks)
     let checks = Checks {
         ip: Box::new(alloc, Constructor::Ip.check(alloc))?,
@@ -115,7 +135,7 @@ pub fn validate_call(alloc: Global, call: &str) -> Result<String, AllocError> {
     let Ok(functions) = ExtensionSchemas::new(functions, overloaded) else {
         return failure(alloc, &Vec::new(alloc));
     };
-    match ValidationCall::read(alloc, &functions, call)? {
+    match ValidationCall::read(alloc, &functions, opened, call)? {
         Ok(read) => read.answer(alloc, &functions),
         Err(faults) => failure(alloc, &faults),
     }
