@@ -1,4 +1,8 @@
 // Tasks of the program, over any files and any writers.
+ghost use Rattle.std.specs.Prelude.{◌≡◌, IfOk};
+ghost use Rattle.cedar_validate.specs.Outcomes.{outcome_by, status_by, CountsNoRefusal};
+
+use crate::outcomes::Outcome;
 use crate::progress::Progress;
 use cedar_findings::arguments::{Arguments, IdScope, Task};
 use cedar_findings::outputs::Output;
@@ -27,8 +31,13 @@ pub struct Call<'a, R, O, T> {
 }
 
 impl<R: Files + AllocGlobal + Input, O: Write, T: Write> Call<'_, R, O, T> {
-    /// Performs the task of the arguments, and answers the exit status.
-    pub fn perform(&mut self, arguments: &Arguments) -> io::Result<u8> {
+    /// Performs the task of the arguments, and answers the exit status: the one of the counts (clause `exact`), so that it is 0
+    /// only if no fault, no refused policy and no refused data is counted (clause `accepted`).
+    pub fn perform(&mut self, arguments: &Arguments) -> io::Result<u8>
+        ensures exact { IfOk result (λ status. status
+            ≡ status_by arguments.now.statuses (outcome_by arguments.now self.new.output)) }
+        ensures accepted { IfOk result (λ status. status ≡ 0 → CountsNoRefusal self.new.output) }
+    {
         self.output.is_quiet = arguments.is_quiet;
         let alloc = self.rt.alloc();
         self.output
@@ -41,10 +50,8 @@ impl<R: Files + AllocGlobal + Input, O: Write, T: Write> Call<'_, R, O, T> {
         // written even if the task failed, because its output so far holds
         self.write_shown()?;
         done?;
-        let own = self
-            .output
-            .status(arguments.task, arguments.denies_warnings);
-        Ok(arguments.statuses.of(own))
+        let outcome = Outcome::of(arguments, &self.output);
+        Ok(outcome.status(arguments.statuses))
     }
 
     /// Writes the output so far.

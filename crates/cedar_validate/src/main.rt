@@ -3,6 +3,7 @@
 
 mod call;
 mod files;
+mod outcomes;
 mod progress;
 mod run;
 mod version;

@@ -1,4 +1,7 @@
 // Requests of the command line, and their exit statuses.
+ghost use Rattle.std.specs.Prelude.{◌≡◌, IfOk};
+ghost use Rattle.cedar_validate.specs.Outcomes.{CountsNoRefusal};
+
 use crate::call::Call;
 use crate::version::{VERSION, build};
 use cedar_findings::arguments::{Asked, read_arguments};
@@ -11,12 +14,14 @@ use std::rt::Files;
 
 /// Performs the request of these words, and answers the exit status: 0 if all policies are accepted, 1 if some are refused or
 /// worse off, 2 if the words are wrong, a file cannot be read or understood, or memory or a writer fails; or the statuses of
-/// Cedar.
+/// Cedar. A call that has counted no fault and no refusal before ends with 0 only if it counts none.
 pub fn run<R: Files + AllocGlobal + Input, O: Write, E: Write, T: Write>(
     call: &mut Call<'_, R, O, T>,
     words: &[String],
     err: &mut E,
-) -> u8 {
+) -> u8
+    ensures { CountsNoRefusal call.old.output → result ≡ 0 → CountsNoRefusal call.new.output }
+{
     match answer(call, words, err) {
         Ok(status) => status,
         Err(error) => {
@@ -33,7 +38,10 @@ fn answer<R: Files + AllocGlobal + Input, O: Write, E: Write, T: Write>(
     call: &mut Call<'_, R, O, T>,
     words: &[String],
     err: &mut E,
-) -> io::Result<u8> {
+) -> io::Result<u8>
+    ensures { IfOk result (λ status. CountsNoRefusal call.old.output → status ≡ 0
+        → CountsNoRefusal call.new.output) }
+{
     let alloc = call.rt.alloc();
     let shown = match read_arguments(alloc, words)? {
         Ok(Asked::Help) => help(alloc)?,
