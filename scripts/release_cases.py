@@ -113,6 +113,22 @@ def start(counts, folder):
     print(f"cedar-validate starts and ends in {min(times):.1f} ms, the best of {RUNS} runs; glibc {release.glibc(folder)} is wanted", flush=True)
 
 
+def bare(counts, folder, room):
+    """README's command where there is nothing but the release, the loader and the C library of this machine."""
+    if os.geteuid() != 0:
+        print("a bare root: skipped, as this is not root", flush=True)
+        return
+    root = room / "bare"
+    shutil.copytree(folder, root, symlinks=True)
+    loaded = re.findall(r"(/\S+) \(", ran("ldd", folder / "bin/cedar-validate", folder / "bin/cedar-language-server").stdout)
+    for it in set(loaded):
+        (root / it[1:]).parent.mkdir(parents=True, exist_ok=True)
+        shutil.copyfile(it, root / it[1:])
+        (root / it[1:]).chmod(0o755)
+    done = ran("chroot", root, *[f"/{it}" if it.startswith("bin/") else it for it in command(folder).split()], env={"PATH": "/usr/sbin:/usr/bin"})
+    counts.want("a bare root", (done.stdout, done.returncode) == (first_example(), 1) and len(set(loaded)) == 2, (loaded, done.stdout))
+
+
 def in_root(counts, suite, folder, room):
     """README's command in a bare root, which has nothing but the release beside Debian's smallest system."""
     root = room / suite
@@ -162,7 +178,8 @@ def signed(counts, file, room):
 
 def refused(counts, room):
     """Words that name no release, a file that is none, and a proof that fails: nothing is made."""
-    with mock.patch.object(proved, "prove_copy", lambda crates, folder: False), mock.patch.object(stamp, "text", lambda is_proved: "commit 1, a kit, proved"):
+    stamped = mock.patch.object(stamp, "text", lambda is_proved: "commit 1, a kit, proved")
+    with mock.patch.object(proved, "prove_copy", lambda crates, folder: False), mock.patch.object(release, "say", lambda text: None), stamped:
         try:
             is_refused = not release.make(room / "none", is_proved=True)
         except release.NotMade:
@@ -195,6 +212,7 @@ def main(words):
         sbom(counts, folder)
         uses(counts, folder, room)
         start(counts, folder)
+        bare(counts, folder, room)
         signed(counts, file, room)
         refused(counts, room)
         if "--again" in flags:
