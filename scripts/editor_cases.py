@@ -7,7 +7,9 @@ set up by the blocks of docs/EDITORS.md (gate/editors.py), and does what a perso
 Neovim sees must be examples/editors/neovim.txt, which --record writes, and docs/EDITORS.md shows. An editor that is missing is skipped, which is said.
 The last line counts what went well and what did not.
 """
+import os
 import re
+import shutil
 import subprocess
 import sys
 import tempfile
@@ -99,6 +101,16 @@ def ends(counts, program):
         client.process.stdout.close()
         client.send(request(1, "x"))
         counts.want("nobody reads the answers", (status := client.process.wait(SECONDS)) != 0, status)
+
+
+def names(counts, program, room):
+    """A copy of the program starts on the PATH under any name."""
+    home = room / "bin"
+    home.mkdir()
+    shutil.copy(program, home / "of-another-name")
+    with Client("of-another-name", {**os.environ, "PATH": f"{home}:{os.environ['PATH']}"}) as client:
+        answer = client.start()
+        counts.want("a server of another name", answer["result"]["serverInfo"]["name"] == "cedar-language-server", answer)
 
 
 def frames(counts, program):
@@ -198,7 +210,7 @@ def main(words):
     counts = Counts()
     with tempfile.TemporaryDirectory(prefix="editors-") as held:
         room = Path(held).resolve()
-        of_server = ((phases,), (ends,), (frames,), (positions, room), (changes, room), (editors.neovim, room, is_recorded), (editors.emacs, room))
+        of_server = ((phases,), (ends,), (names, room), (frames,), (positions, room), (changes, room), (editors.neovim, room, is_recorded), (editors.emacs, room))
         parts = [(each, program, *more) for each, *more in of_server] + [(editors.vim, room), (editors.vscode,)]
         for each, *given in parts:
             try:

@@ -98,8 +98,7 @@ def name_of(is_proved):
 
 def unproved_parts():
     """The two programs and the calls, built without a proof."""
-    server = unproved.Build("server", [CRATES[1]], "main.rt", "-O1").folder() / CRATES[1]
-    return unproved.program(CRATES[0]), server, library.without_proof()
+    return *map(unproved.program, CRATES[:2]), library.without_proof()
 
 
 def proved_parts():
