@@ -11,7 +11,7 @@ LISTS = {
         "web_cases.py", "editor_cases.py", "gate/editor_texts.py",
     ],
     "measurements": [
-        "stack.py", "measure/benchmark.py", "measure/policy_speed.py", "measure/growth.py", "measure/schema_growth.py", "measure/input_growth.py",
+        "stack.py", "measure/benchmark.py", "measure/policy_speed.py", "measure/growth.py", "measure/schema_growth.py", "measure/input_growth.py", "measure/library_calls.py",
         "measure/link_growth.py", "measure/loading_memory.py", "measure/where_growth.py", "measure/drop_cost.py",
     ],
 }
