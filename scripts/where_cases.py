@@ -22,15 +22,25 @@ import unproved
 
 POLICIES, ROWS, SETS = 1000, 1000, 40
 
-SCHEMA = """entity Group in [Group];
-entity User in [Group];
-entity Album in [Album];
+SCHEMA = """type Device = { trusted: Bool, owner?: User };
+type Context = { day: Long, note?: String, device: Device, who: User };
+entity Group in [Group];
+entity User in [Group] { name: String, age?: Long, vip: Bool, boss: User, home?: Album, card: { level: Long } };
+entity Album in [Album] { name: String, age?: Long, vip: Bool, boss: User, home?: Album, card: { level: Long } };
 entity Photo in [Album] { owner: User, backup?: User, album: Album, near?: Album, group: Group, title: String, tag: String, note?: String,
   level: Long, size: Long, rank?: Long, public: Bool, draft: Bool, secret?: Bool, labels: Set<String>, "select": String, "a'b\\"c": Long };
 action read;
-action view, share in [read] appliesTo { principal: User, resource: Photo };
-action sync appliesTo { principal: Album, resource: Photo };
+action view, share in [read] appliesTo { principal: User, resource: Photo, context: Context };
+action sync appliesTo { principal: Album, resource: Photo, context: Context };
 """
+# What the principal, and the users behind it, and the context give: each path, and its kind. Behind the principal a value may be missing because an
+# entity is not stored, but only an optional attribute needs a test before it.
+PATHS = {"principal.name": "S", "principal.age": "L", "principal.vip": "B", "principal.boss": "User", "principal.home": "Album", "principal.card.level": "L",
+         "principal.boss.name": "S", "principal.boss.boss": "User", "principal.boss.age": "L", "context.day": "L", "context.note": "S",
+         "context.device.trusted": "B", "context.device.owner": "User", "context.who": "User", "context.who.name": "S", "context.who.age": "L"}
+OPTIONAL_PATHS = ("principal.age", "principal.home", "principal.boss.age", "context.note", "context.device.owner", "context.who.age")
+# (behind a value that may be missing NULL does not tell whether an attribute is missing)
+TESTED_PATHS = tuple(path for path in PATHS if path.count(".") == 1 or path.startswith("context.device"))
 # The kind of each attribute, by the schema: B, L, S, or an entity type.
 ATTRIBUTES = {"owner": "User", "backup": "User", "album": "Album", "near": "Album", "group": "Group", "title": "S", "tag": "S", "note": "S",
               "level": "L", "size": "L", "rank": "L", "public": "B", "draft": "B", "secret": "B", "select": "S", "a'b\"c": "L"}
@@ -69,6 +79,13 @@ def show(e):
         return f"resource.{e[1]}" if is_identifier(e[1]) else f"resource[{cedar_text(e[1])}]"
     if form == "has":
         return f"resource has {e[1] if is_identifier(e[1]) else cedar_text(e[1])}"
+    if form == "path":
+        return e[1]
+    if form == "has path":
+        base, _, name = e[1].rpartition(".")
+        return f"{base} has {name}"
+    if form == "contains":
+        return f"[{', '.join(cedar_text(text) for text in e[1])}].contains({show(e[2])})"
     if form == "lit":
         return cedar_text(e[1]) if isinstance(e[1], str) else str(e[1]).lower()
     if form == "entity":
@@ -91,6 +108,22 @@ def matches(pattern, text):
     return re.fullmatch("".join(".*" if c is Ellipsis else re.escape(c) for c in pattern), text, re.S) is not None
 
 
+def follow(path, world):
+    """The value at the end of a path: of records and of entities that are stored. None where an attribute or an entity is missing."""
+    name, *names = path.split(".")
+    value = world[name]
+    for name in names:
+        value = (world["stored"].get(value, {}) if isinstance(value, tuple) else value).get(name, FAIL)
+        if value is FAIL:
+            return FAIL
+    return value
+
+
+def parameters(world):
+    """What a query's parameters have to be bound to."""
+    return {"principal": world["principal"][1], **{path.replace(".", "$"): cell(follow(path, world)) for path in PATHS}}
+
+
 def evaluator(e, world):
     """A function of a row's attributes: a value, or FAIL. Entities are pairs of a type and an id."""
     form = e[0]
@@ -100,6 +133,15 @@ def evaluator(e, world):
     if form == "has":
         name = e[1]
         return lambda row: name in row
+    if form == "path":
+        value = follow(e[1], world)
+        return lambda row: value
+    if form == "has path":
+        value = follow(e[1], world) is not FAIL
+        return lambda row: value
+    if form == "contains":
+        texts, member = e[1], evaluator(e[2], world)
+        return lambda row: FAIL if (v := member(row)) is FAIL else v in texts
     if form == "lit":
         value = e[1]
         return lambda row: value
@@ -161,9 +203,15 @@ class Conditions:
         names = [n for n, k in ATTRIBUTES.items() if k == kind and not (self.guarded and n in OPTIONAL)]
         return ("attr", self.rng.choice(names))
 
+    def path(self, kind):
+        return ("path", self.rng.choice([p for p, k in PATHS.items() if k == kind and not (self.guarded and p in OPTIONAL_PATHS)]))
+
     def term(self, kind):
-        if self.rng.random() < 0.55:
+        r = self.rng.random()
+        if r < 0.45:
             return self.attribute(kind)
+        if r < 0.7 and kind in PATHS.values() and (kind != "Album" or not self.guarded):
+            return self.path(kind)
         if kind == "S":
             return ("lit", self.rng.choice(TEXTS))
         if kind == "L":
@@ -187,8 +235,16 @@ class Conditions:
         r, choose = self.rng.random(), self.rng.choice
         if r < 0.1:
             return self.attribute("B")
-        if r < 0.15:
+        if r < 0.13:
             return ("has", choose([n for n in ATTRIBUTES]))
+        if r < 0.15:
+            return ("has path", choose(TESTED_PATHS))
+        if r < 0.2:
+            path = choose([p for p in OPTIONAL_PATHS if p in TESTED_PATHS])
+            kind = PATHS[path]
+            return ("and", ("has path", path), ("eq", ("path", path), self.entity() if len(kind) > 1 else self.term(kind)))
+        if r < 0.23:
+            return ("contains", tuple(choose(TEXTS) for _ in range(self.rng.randrange(1, 4))), self.term("S"))
         if r < 0.3:
             name = choose(OPTIONAL)
             kind = ATTRIBUTES[name]
@@ -253,6 +309,18 @@ def store(rng):
         rows.append(row)
         ancestors["Photo", row["::eid"]] = {a for a in albums if rng.random() < 0.2}
     return rows, ancestors
+
+
+def request(rng, principal_type, action, ancestors):
+    """A request's principal, action and context, and the entities that are stored: neither each user nor each album is."""
+    stored = {}
+    for entity in [(kind, eid) for kind in ("User", "Album") for eid in IDS if rng.random() < 0.8]:
+        attributes = {"name": rng.choice(TEXTS), "vip": rng.random() < 0.5, "boss": ("User", rng.choice(IDS)), "card": {"level": rng.choice(NUMBERS)}}
+        optional = {"age": rng.choice(NUMBERS), "home": ("Album", rng.choice(IDS))}
+        stored[entity] = attributes | {name: value for name, value in optional.items() if rng.random() < 0.6}
+    device = {"trusted": rng.random() < 0.5} | ({"owner": ("User", rng.choice(IDS))} if rng.random() < 0.6 else {})
+    context = {"day": rng.choice(NUMBERS), "device": device, "who": ("User", rng.choice(IDS))} | ({"note": rng.choice(TEXTS)} if rng.random() < 0.6 else {})
+    return {"principal": (principal_type, rng.choice(IDS)), "action": ("Action", action), "context": context, "stored": stored, "ancestors": ancestors}
 
 
 def cell(value):
@@ -366,17 +434,15 @@ def check_clauses(tally, clauses_of, rng):
             tally.check(False, (name, show(e), clause))
             continue
         compiled += 1
-        principal = rng.choice(IDS)
-        world = {"principal": (principal_type, principal), "action": ("Action", action), "ancestors": ancestors}
+        world = request(rng, principal_type, action, ancestors)
         evaluate = evaluator(e, world)
-        given = {"principal": principal} if ":principal" in clause else {}
-        have = dict(db.execute(f'select "Photo"."eid", {clause} from "Photo"', given))
+        have = dict(db.execute(f'select "Photo"."eid", {clause} from "Photo"', parameters(world)))
         wrong = 0
         for row in rows:
             want = evaluate(row)
             failing += want is FAIL
             wrong += have[row["::eid"]] != (None if want is FAIL else int(want))
-        tally.check(wrong == 0, (name, principal_type, action, principal, wrong, show(e), clause))
+        tally.check(wrong == 0, (name, principal_type, action, world, wrong, show(e), clause))
     print(f"{compiled} clauses on {len(rows)} rows each, of which evaluation fails on {failing}")
 
 
@@ -392,17 +458,16 @@ def check_sets(tally, queries_of, rng):
             continue
         db = database(unique(tables), rows, ancestors)
         for (principal_type, action), query in queries.items():
-            principal = rng.choice(IDS)
-            world = {"principal": (principal_type, principal), "action": ("Action", action), "ancestors": ancestors}
+            world = request(rng, principal_type, action, ancestors)
             tests = [(effect, evaluator(e, world)) for effect, e in made.values()]
-            have = {eid for eid, in db.execute(query, {"principal": principal} if ":principal" in query else {})}
+            have = {eid for eid, in db.execute(query, parameters(world))}
             want = set()
             for row in rows:
                 satisfied = {effect for effect, test in tests if test(row) is True}
                 if satisfied == {"permit"}:
                     want.add(row["::eid"])
             decisions += len(rows)
-            tally.check(have == want, (n, principal_type, action, principal, [(k, show(e)) for k, e in made.values()], query))
+            tally.check(have == want, (n, principal_type, action, world, [(k, show(e)) for k, e in made.values()], query))
     print(f"{decisions} decisions of sets")
 
 
@@ -415,11 +480,16 @@ HAVE = ("true", "resource.public", "!resource.public", "resource.public && resou
         "action in Action::\"read\"", "action in [Action::\"view\", Action::\"sync\"]",
         "principal in [Group::\"7\", User::\"bob\"]", "resource has note", "resource has note && resource.note == \"a\"", "resource has title",
         "resource has backup && principal == resource.backup", "resource.public == (1 == 2)", "resource[\"select\"] == \"a\"", "resource.public == true",
-        "resource.title == \"\\u{fffe}\"", "resource.title like \"*\\u{fffc}\"")
+        "principal.name == \"a\"", "principal has age && principal.age < 7", "principal.card.level == resource.level", "principal.boss.boss == resource.owner",
+        "context.day < 7", "context.device.trusted", "context has note && context.note like \"a*\"", "context.who in Group::\"7\"",
+        "context.device has owner && context.device.owner == principal", "[\"a\", \"it's\"].contains(resource.title)",
+        "[\"a\"].contains(principal.name)", "resource.title == \"\\u{fffe}\"", "resource.title like \"*\\u{fffc}\"")
 NO_PATTERN = "a pattern with NUL, a backslash, U+FFFD, U+FFFE or U+FFFF has no clause"
 HAVE_NONE = (("resource.level + 1 == 7", "SQL's arithmetic does not fail as Cedar's does"), ("-resource.level == 7", "SQL's arithmetic does not fail as Cedar's does"),
              ("if resource.public then resource.draft else true", "`if` has no clause"), ("resource.labels.contains(\"a\")", "no column has this attribute"),
-             ("[\"a\"].contains(resource.title)", "a set has no clause"),
+             ("[\"a\", principal.name].contains(resource.title)", "a set has no clause"), ("[\"a\\\\\"].contains(resource.title)", "a set has no clause"),
+             ("[1].contains(resource.level)", "a set has no clause"), ("principal.card == principal.boss.card", "no parameter has this value"),
+             ("principal.boss has age", "no parameter has this value"), ("context has device", "no parameter has this value"),
              ("principal in [resource.group, Group::\"7\"]", "a set has no clause"), ("resource.title == \"a\\0\"", "a text with NUL or a backslash has no clause"),
              ("resource.title == \"\\\\\"", "a text with NUL or a backslash has no clause"), ("resource.title like \"*\\\\\"", NO_PATTERN),
              ("resource.title like \"\\0\"", NO_PATTERN), ("resource.title like \"\\u{fffd}\"", NO_PATTERN),

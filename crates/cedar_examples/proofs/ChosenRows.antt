@@ -103,6 +103,7 @@ module _ (b : Basis) (world : World) (d : Data) (row : IsRowOf world d) (p : Lin
     attributes = row.attributes;
     own_id = row.own_id;
     principal = row.principal;
+    parameters = row.parameters;
     ancestors = row.ancestors;
   }
 

@@ -12,9 +12,9 @@ use Rattle.cedar_types.specs.Names.{Uid}
 use Rattle.cedar_typing.proofs.Basics.{or_cases, not_true}
 use Rattle.cedar_typing.proofs.Bounds.Attributes.{AttrAt, found_at}
 use Rattle.cedar_typing.specs.Evaluation.Eval.{attribute_value}
-use Rattle.cedar_typing.specs.Evaluation.World.{AbsentAttribute, Outcome, Gives, Fails}
+use Rattle.cedar_typing.specs.Evaluation.World.{Failure, AbsentAttribute, Outcome, Gives, Fails}
 use Rattle.cedar_where.specs.Compiled.{Kind, KBool, KLong, KText, KEntity, Term, term, is_plain, entity_kind, column_kind, column_of_kind}
-use Rattle.cedar_where.specs.Compiled.{column_term, has_column}
+use Rattle.cedar_where.specs.Compiled.{column_term, has_value}
 use Rattle.cedar_where.specs.Rows.{cell_at}
 use Rattle.cedar_where.specs.Rows as rows
 use Rattle.cedar_where.specs.Sql.{Cell, Null, Truth, Data, Sql, sql_column, value, not_null_cell, uid}
@@ -37,7 +37,7 @@ module _ (s : Schema) (x : Text) where
 -- ---- a column holds the entity's value
 
 -- for an attribute that has a column
-abbrev OfKind : Bool → Outcome → Cell → Option Kind → Type 0
+abbrev pub OfKind : Bool → Outcome → Cell → Option Kind → Type 0
 OfKind r o c None = Unit {0}
 OfKind r o c (Some k) = Agree k r o c
 
@@ -50,7 +50,7 @@ typed_entity r (p ∷ []) (VEntity u) h =
 typed_entity r (p ∷ []) v h = absurd h
 typed_entity r (p ∷ q ∷ ps) v h = tt
 
-typed_value : (r : Bool) (t : Ty) (v : Value) → HasType t v → OfKind r (Gives v) (rows.cell_of v) (column_kind t)
+pub typed_value : (r : Bool) (t : Ty) (v : Value) → HasType t v → OfKind r (Gives v) (rows.cell_of v) (column_kind t)
 typed_value r TNever v h = tt
 typed_value r (TBool k) (VBool b) h = (there b, refl, refl)
 typed_value r (TBool k) v h = absurd h
@@ -65,13 +65,13 @@ typed_value r (TEntity ps) v h = typed_entity r ps v h
 typed_value r TAnyEntity v h = tt
 typed_value r (TExtension n) v h = tt
 
-absent : (r : Bool) → r ≡ false → (k : Option Kind) → OfKind r (Fails AbsentAttribute) Null k
-absent r e None = tt
-absent r e (Some k) = (gone AbsentAttribute e, refl, refl)
+pub absent : (f : Failure) (r : Bool) → r ≡ false → (k : Option Kind) → OfKind r (Fails f) Null k
+absent f r e None = tt
+absent f r e (Some k) = (gone f e, refl, refl)
 
 attribute_agrees : (a : Ty × Bool) (v : Option Value) → AttrAt (Some a) v
     → OfKind a.1 (attribute_value v) (cell_at v) (column_kind a.0)
-attribute_agrees a None h = absent a.1 (not_true a.1 h) (column_kind a.0)
+attribute_agrees a None h = absent AbsentAttribute a.1 (not_true a.1 h) (column_kind a.0)
 attribute_agrees a (Some v) h = typed_value a.1 a.0 v h
 
 module _ (d : Data) (x : Text) (v : Option Value) (cell : d.cells x ≡ cell_at v) where
@@ -87,14 +87,22 @@ module _ (d : Data) (x : Text) (v : Option Value) (cell : d.cells x ≡ cell_at 
 
 -- ---- `has`
 
-has_answer : (k : Kind) (r : Bool) (v : Option Value) (c : Cell) → Agree k r (attribute_value v) c
-    → Agree KBool true (Gives (VBool (is_some v))) (not_null_cell c)
-has_answer k r None c (there w, o, e) = absurd (cc)
-has_answer k r None c (gone f n, o, e) = (there false, refl, ap not_null_cell e)
-has_answer k r (Some u) c (there w, o, e) = (there true, refl, ap not_null_cell e ∙ not_null_held k w)
-has_answer k r (Some u) c (gone f n, o, e) = absurd (cc)
+-- whether there is a value
+abbrev pub gives : Outcome → Bool
+gives (Gives v) = true
+gives (Fails f) = false
 
-pub has_right : (d : Data) (y : Option Term) (v : Option Value) → OnTerm (IsRight d (attribute_value v)) y
-    → OnTerm (IsRight d (Gives (VBool (is_some v)))) (has_column y)
-has_right d None v h = tt
-has_right d (Some a) v h = has_answer a.kind a.is_total v (value d a.sql) h
+pub some_gives : (v : Option Value) → is_some v ≡ gives (attribute_value v)
+some_gives None = refl
+some_gives (Some v) = refl
+
+has_answer : (k : Kind) (r : Bool) (o : Outcome) (c : Cell) → Agree k r o c
+    → Agree KBool true (Gives (VBool (gives o))) (not_null_cell c)
+has_answer k r o c (there w, p, q) =
+    (there true, ap (λ z. Gives (VBool (gives z))) p, ap not_null_cell q ∙ not_null_held k w)
+has_answer k r o c (gone f n, p, q) = (there false, ap (λ z. Gives (VBool (gives z))) p, ap not_null_cell q)
+
+pub has_right : (d : Data) (y : Option Term) (o : Outcome) → OnTerm (IsRight d o) y
+    → OnTerm (IsRight d (Gives (VBool (gives o)))) (has_value y)
+has_right d None o h = tt
+has_right d (Some a) o h = has_answer a.kind a.is_total o (value d a.sql) h

@@ -13,17 +13,21 @@ use Rattle.cedar_types.specs.Values.Stores.{ConformingStore, entity_at}
 use Rattle.cedar_typing.proofs.Basics.{some_is, none_is}
 use Rattle.cedar_typing.proofs.Bounds.Attributes.{AttrAt}
 use Rattle.cedar_typing.specs.Evaluation.Conformance.{FitsRequest}
-use Rattle.cedar_typing.specs.Evaluation.Eval.{eval, attribute_value, entity_get, entity_has}
+use Rattle.cedar_typing.specs.Evaluation.Eval.{eval, attribute_value, entity_get, entity_has, get}
+use Rattle.cedar_typing.specs.Evaluation.Outcomes.{on_value}
 use Rattle.cedar_typing.specs.Evaluation.World.{World, Outcome, Gives, Fails}
 use Rattle.cedar_typing.specs.Soundness.{IsTrueOutcome}
 use Rattle.cedar_typing.specs.TypedExpr.{Mark, TypedTree}
 use Rattle.cedar_where.specs.Compiled.{Kind, KBool, KLong, KText, KEntity, Term, term, is_bool, is_plain, text_term, entity_term}
-use Rattle.cedar_where.specs.Compiled.{variable_term, attribute_term, has_term, compiled, clause_of, scope_at, clause_at}
+use Rattle.cedar_where.specs.Compiled.{variable_term, attribute_term, has_term, compiled, clause_of, clause_at}
 use Rattle.cedar_where.specs.Meaning.{IsOutcome, MeansTheCondition, ChoosesTheTrue}
+use Rattle.cedar_where.specs.Routes.{next_route, route}
 use Rattle.cedar_where.specs.Rows.{IsRowOf}
+use Rattle.cedar_where.specs.Scopes.{scope_at}
 use Rattle.cedar_where.specs.Sql.{Cell, Truth, Words, Data, Sql, sql_text, value, uid}
-use Rattle.cedar_where.proofs.ColumnsAgree.{declaration_at, column_right, has_right}
+use Rattle.cedar_where.proofs.ColumnsAgree.{declaration_at, column_right, some_gives, has_right}
 use Rattle.cedar_where.proofs.OperatorsAgree.{and_right, or_right, unary_right, operands_right, like_right, is_right}
+use Rattle.cedar_where.proofs.RoutesAgree.{next_right, route_right, parameter_right, has_behind_right}
 use Rattle.cedar_where.proofs.Parts.{there, gone, Agree, OnTerm, IsRight, if_plain}
 
 module _ (s : Schema) (env : DeclaredEnv) (world : World) (fits : FitsRequest env world.request)
@@ -69,16 +73,22 @@ module _ (s : Schema) (env : DeclaredEnv) (world : World) (fits : FitsRequest en
   attribute_right (var n Var.Resource) x m =
       subst (λ o. OnTerm (IsRight d o) (attribute_term (scope_at s env) (var n Var.Resource) x))
       (sym (ap (λ q. entity_get q x) row.stored)) (column_of_resource x n)
-  attribute_right a x m = tt
+  attribute_right a x m =
+      parameter_right s env world fits conforms d row (on_value (eval world a) (get world.store x)) (next_route s x (route (scope_at s env) a))
+      (next_right s env world fits conforms d row x (eval world a) (route (scope_at s env) a)
+      (route_right s env world fits conforms d row a))
 
   has_term_right : (a : TypedTree) (x : Text) (m : Mark)
       → OnTerm (IsRight d (eval world (has_attr m a x))) (has_term (scope_at s env) a x)
   has_term_right (var n Var.Resource) x m =
       subst (λ o. OnTerm (IsRight d o) (has_term (scope_at s env) (var n Var.Resource) x))
-      (sym (ap (λ q. Gives (VBool (entity_has q x))) row.stored))
-      (has_right d (attribute_term (scope_at s env) (var n Var.Resource) x) (entry_at x row.entity.attributes)
-      (column_of_resource x n))
-  has_term_right a x m = tt
+      (sym (ap (λ q. Gives (VBool (entity_has q x))) row.stored
+      ∙ ap (λ b. Gives (VBool b)) (some_gives (entry_at x row.entity.attributes))))
+      (has_right d (attribute_term (scope_at s env) (var n Var.Resource) x)
+      (attribute_value (entry_at x row.entity.attributes)) (column_of_resource x n))
+  has_term_right a x m =
+      has_behind_right s env world fits conforms d row x (eval world a) (route (scope_at s env) a)
+      (route_right s env world fits conforms d row a)
 
   part_right : (e : TypedTree) → OnTerm (IsRight d (eval world e)) (compiled (scope_at s env) e)
   part_right (lit m (bool b)) = (there b, refl, refl)
@@ -99,8 +109,8 @@ module _ (s : Schema) (env : DeclaredEnv) (world : World) (fits : FitsRequest en
       (part_right a) (part_right b)
   part_right (unary m o a) = unary_right d o (compiled (scope_at s env) a) (eval world a) (part_right a)
   part_right (binary m o a b) =
-      operands_right d world row.ancestors o b (compiled (scope_at s env) a) (compiled (scope_at s env) b)
-      (eval world a) (part_right a) (part_right b)
+      operands_right d world row.ancestors o a b (compiled (scope_at s env) a) (compiled (scope_at s env) b)
+      (part_right a) (part_right b)
   part_right (call m n ts) = tt
   part_right (get_attr m a x) = attribute_right a x m
   part_right (has_attr m a x) = has_term_right a x m

@@ -1,6 +1,7 @@
 pub mod Parts
 pub mod OperatorsAgree
 pub mod ColumnsAgree
+pub mod RoutesAgree
 pub mod ConditionsAgree
 pub mod Answered
 pub mod SetsAgree

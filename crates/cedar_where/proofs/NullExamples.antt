@@ -24,6 +24,7 @@ null_examples d p u = record {
   less = refl;
   less_equal = refl;
   matched = refl;
+  null_among = refl;
   in_null = refl;
   null_in = refl;
   null_in_any = refl;

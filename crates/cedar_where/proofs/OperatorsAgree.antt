@@ -9,19 +9,20 @@ use Rattle.cedar_types.specs.declared.base.expressions.operators.UnaryOp.{UnaryO
 use Rattle.cedar_types.specs.declared.base.expressions.patterns.PatternElem.{PatternElem}
 use Rattle.cedar_types.specs.Names.{Text, Path, Uid, path_eq, text_eq, uid_eq}
 use Rattle.cedar_types.specs.Names.Comparisons.{bool_eq}
-use Rattle.cedar_types.specs.Expressions.Tree.{entity, lit, set_of, Trees, no_trees, tree}
-use Rattle.cedar_types.specs.Values.{Value, VBool, VEntity, VSet, Values, no_values, more_values}
+use Rattle.cedar_types.specs.Expressions.Tree.{entity, string, lit, set_of, Trees, no_trees, tree}
+use Rattle.cedar_types.specs.Values.{Value, VBool, VString, VEntity, VSet, Values, no_values, more_values}
 use Rattle.cedar_types.specs.Values.Stores.{Store, entity_at}
 use Rattle.cedar_typing.specs.Evaluation.Equality.{same_value, all_values, any_value}
 use Rattle.cedar_typing.specs.Evaluation.Eval.{binary_outcome, unary_outcome, has_ancestor, is_in, is_in_entity, is_some_entity, value_in}
-use Rattle.cedar_typing.specs.Evaluation.Eval.{is_of, like_outcome, matches, eval, eval_all}
+use Rattle.cedar_typing.specs.Evaluation.Eval.{contains, is_of, like_outcome, matches, eval, eval_all}
 use Rattle.cedar_typing.specs.Evaluation.Outcomes.{test_of, of_test, and_test, or_test, not_test, on_value, GiveAll, more_outcomes, on_values}
 use Rattle.cedar_typing.specs.Evaluation.World.{Interpretation, World, TypeFailure, Outcome, Gives, Fails}
 use Rattle.cedar_typing.specs.TypedExpr.{Mark, TypedTree}
 use Rattle.cedar_typing.proofs.Basics.{some_is, none_is}
 use Rattle.cedar_where.specs.Compiled.{Kind, KBool, KLong, KText, KEntity, Term, term, same_kind, conjunction, disjunction, and_term}
 use Rattle.cedar_where.specs.Compiled.{or_term, not_term, unary_term, difference, equality, less, less_or_equal, in_term}
-use Rattle.cedar_where.specs.Compiled.{is_plain, plain_entity, entity_literal, and_others, entity_literals, in_any_of, in_any, operator_term}
+use Rattle.cedar_where.specs.Compiled.{is_plain, plain_entity, entity_literal, and_others, literals, entity_literals, in_any_of, in_any, operator_term}
+use Rattle.cedar_where.specs.Compiled.{plain_text, text_literal, text_literals, among, among_texts, contains_term}
 use Rattle.cedar_where.specs.Compiled.{binary_of_terms, binary_term, like_term, is_plain_pattern, type_test, is_of_kind, is_term}
 use Rattle.cedar_where.specs.Sql.{Cell, Null, Truth, Data, Sql, sql_equal, sql_matches, value, uid, not_cell, and_cells, or_cells, case_cell, equal_cells}
 use Rattle.cedar_where.specs.Sql.{ordered_cells, not_null_cell, matches_cell, ids_cell, id_cell, is_within, is_id_within, is_id_within_any}
@@ -289,11 +290,32 @@ module _ (d : Data) (store : Store) (i : Interpretation) where
     binary_right op (Some a) None o o' h k = tt
     binary_right op None y o o' h k = tt
 
+-- ---- sets of literals
+
+abbrev values_of : {A : Type 0} → (A → Value) → List A → Values
+values_of f [] = no_values
+values_of f (u ∷ us) = more_values (f u) (values_of f us)
+
+-- a set of literals of a form has their values
+literals_are : {A : Type 0} (world : World) (f : A → Value) (form : TypedTree → Option A)
+    → ((e : TypedTree) (u : A) → form e ≡ Some u → eval world e ≡ Gives (f u))
+    → (ts : Trees Mark) (us : List A) → literals form ts ≡ Some us → eval_all world ts ≡ GiveAll (values_of f us)
+literals_are world f form is no_trees us h = ap (λ vs. GiveAll (values_of f vs)) (some_is h)
+literals_are {A} world f form is (tree e ts) us h =
+    by (literals_are world f form is ts) (form e) (literals form ts) refl refl h
+  where
+    by : ((vs : List A) → literals form ts ≡ Some vs → eval_all world ts ≡ GiveAll (values_of f vs))
+        → (q : Option A) (r : Option (List A)) → form e ≡ q → literals form ts ≡ r
+        → and_others q r ≡ Some us → eval_all world (tree e ts) ≡ GiveAll (values_of f us)
+    by rest (Some u) (Some vs) g k l =
+        ap_both more_outcomes (is e u g) (rest vs k) ∙ ap (λ ws. GiveAll (values_of f ws)) (some_is l)
+    by rest (Some u) None g k l = absurd (none_is l)
+    by rest None r g k l = absurd (none_is l)
+
 -- ---- `in` a set of entities
 
 abbrev entity_values : List Uid → Values
-entity_values [] = no_values
-entity_values (u ∷ us) = more_values (VEntity u) (entity_values us)
+entity_values us = values_of VEntity us
 
 all_entities : (us : List Uid) → all_values is_some_entity (entity_values us) ≡ true
 all_entities [] = refl
@@ -341,19 +363,6 @@ module _ (d : Data) (world : World) (ancestors : (u v : Uid) → d.has_ancestor 
   literal_is (lit m (entity v)) u h = ap (λ w. Gives (VEntity w)) (plain_is v u h)
   literal_is e u h = absurd (none_is h)
 
-  literals_are : (ts : Trees Mark) (us : List Uid) → entity_literals ts ≡ Some us
-      → eval_all world ts ≡ GiveAll (entity_values us)
-  literals_are no_trees us h = ap (λ vs. GiveAll (entity_values vs)) (some_is h)
-  literals_are (tree e ts) us h = by (literals_are ts) (entity_literal e) (entity_literals ts) refl refl h
-    where
-      by : ((vs : List Uid) → entity_literals ts ≡ Some vs → eval_all world ts ≡ GiveAll (entity_values vs))
-          → (q : Option Uid) (r : Option (List Uid)) → entity_literal e ≡ q → entity_literals ts ≡ r
-          → and_others q r ≡ Some us → eval_all world (tree e ts) ≡ GiveAll (entity_values us)
-      by rest (Some u) (Some vs) f g k =
-          ap_both more_outcomes (literal_is e u f) (rest vs g) ∙ ap (λ ws. GiveAll (entity_values ws)) (some_is k)
-      by rest (Some u) None f g k = absurd (none_is k)
-      by rest None r f g k = absurd (none_is k)
-
   set_right : (ts : Trees Mark) (x : Option Term) (o : Outcome) → OnTerm (IsRight d o) x
       → OnTerm (IsRight d (in_outcome o (set_outcome ts))) (in_any x (entity_literals ts))
   set_right ts None o h = tt
@@ -364,16 +373,68 @@ module _ (d : Data) (world : World) (ancestors : (u v : Uid) → d.has_ancestor 
       by None e = tt
       by (Some us) e =
           subst (λ os. OnTerm (IsRight d (in_outcome o (on_values os (λ vs. Gives (VSet vs))))) (in_any_of a a.kind us))
-          (sym (literals_are ts us e)) (in_set_at a.sql a.kind a.is_total us o h)
+          (sym (literals_are world VEntity entity_literal literal_is ts us e)) (in_set_at a.sql a.kind a.is_total us o h)
 
-  pub operands_right : (op : BinaryOp) (b : TypedTree) (x y : Option Term) (o : Outcome) → OnTerm (IsRight d o) x
+  -- ---- `contains` of a set of texts
+
+  abbrev text_values : List Text → Values
+  text_values us = values_of VString us
+
+  any_text : (t : Text) (us : List Text) → any_value (same_value (VString t)) (text_values us) ≡ list_any (text_eq t) us
+  any_text t [] = refl
+  any_text t (u ∷ us) = ap (λ b. text_eq t u || b) (any_text t us)
+
+  plain_text_is : (v u : Text) → plain_text v ≡ Some u → v ≡ u
+  plain_text_is v u h = by (is_plain v) h
+    where
+      by : (b : Bool) → (if b then Some v else None) ≡ Some u → v ≡ u
+      by true k = some_is k
+      by false k = absurd (none_is k)
+
+  text_is : (e : TypedTree) (u : Text) → text_literal e ≡ Some u → eval world e ≡ Gives (VString u)
+  text_is (lit m (string v)) u h = ap (λ w. Gives (VString w)) (plain_text_is v u h)
+  text_is e u h = absurd (none_is h)
+
+  abbrev among_outcome : List Text → Outcome → Outcome
+  among_outcome us o = on_value o (contains (VSet (text_values us)))
+
+  among_answer : (us : List Text) (r : Bool) (x : Answer KText r)
+      → Agree KBool r (among_outcome us (outcome_of KText r x)) (id_cell (λ s. list_any (text_eq s) us) (cell_of KText r x))
+  among_answer us r (there t) = (there (list_any (text_eq t) us), ap (λ b. Gives (VBool b)) (any_text t us), refl)
+  among_answer us r (gone f e) = (gone f e, refl, refl)
+
+  among_at : (e : Sql) (k : Kind) (r : Bool) (us : List Text) (o : Outcome) → Agree k r o (value d e)
+      → OnTerm (IsRight d (among_outcome us o)) (among (term e k r) us)
+  among_at e KText r us o a =
+      from_one (among_outcome us) (id_cell (λ s. list_any (text_eq s) us)) KText KBool r r (among_answer us r)
+      o (value d e) a
+  among_at e k r us o a = tt
+
+  abbrev contains_outcome : Outcome → Outcome → Outcome
+  contains_outcome o o' = on_value o (λ v. on_value o' (contains v))
+
+  contains_right : (a : TypedTree) (y : Option Term) (o' : Outcome) → OnTerm (IsRight d o') y
+      → OnTerm (IsRight d (contains_outcome (eval world a) o')) (contains_term a y)
+  contains_right (set_of m ts) y o' k = by (text_literals ts) refl y k
+    where
+      by : (r : Option (List Text)) → text_literals ts ≡ r → (y : Option Term) → OnTerm (IsRight d o') y
+          → OnTerm (IsRight d (contains_outcome (set_outcome ts) o')) (among_texts r y)
+      by None e y k = tt
+      by (Some us) e None k = tt
+      by (Some us) e (Some a) k =
+          subst (λ os. OnTerm (IsRight d (contains_outcome (on_values os (λ vs. Gives (VSet vs))) o')) (among a us))
+          (sym (literals_are world VString text_literal text_is ts us e)) (among_at a.sql a.kind a.is_total us o' k)
+  contains_right a y o' k = tt
+
+  pub operands_right : (op : BinaryOp) (a b : TypedTree) (x y : Option Term) → OnTerm (IsRight d (eval world a)) x
       → OnTerm (IsRight d (eval world b)) y
-      → OnTerm (IsRight d (on_value o (λ v. on_value (eval world b) (binary_outcome world.store world.functions op v))))
-      (operator_term op b x y)
-  operands_right BinaryOp.In (set_of m ts) x y o h k = set_right ts x o h
-  operands_right BinaryOp.In b x y o h k =
-      binary_right d world.store world.functions ancestors BinaryOp.In x y o (eval world b) h k
-  operands_right op b x y o h k = binary_right d world.store world.functions ancestors op x y o (eval world b) h k
+      → OnTerm (IsRight d (on_value (eval world a) (λ v. on_value (eval world b) (binary_outcome world.store world.functions op v))))
+      (operator_term op a b x y)
+  operands_right BinaryOp.In a (set_of m ts) x y h k = set_right ts x (eval world a) h
+  operands_right BinaryOp.In a b x y h k =
+      binary_right d world.store world.functions ancestors BinaryOp.In x y (eval world a) (eval world b) h k
+  operands_right BinaryOp.Contains a b x y h k = contains_right a y (eval world b) k
+  operands_right op a b x y h k = binary_right d world.store world.functions ancestors op x y (eval world a) (eval world b) h k
 
 -- ---- `like`
 

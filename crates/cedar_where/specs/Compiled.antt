@@ -7,15 +7,16 @@ use Rattle.cedar_types.specs.declared.base.expressions.operators.Var.{Var}
 use Rattle.cedar_types.specs.declared.base.expressions.patterns.PatternElem.{PatternElem}
 use Rattle.cedar_types.specs.Expressions.Tree.{bool, long, string, entity, lit, var, slot, unknown, if_then_else, and, or, unary, binary}
 use Rattle.cedar_types.specs.Expressions.Tree.{call, get_attr, has_attr, ext_has_attr, like, is_type, set_of, record_of, Trees, no_trees, tree}
-use Rattle.cedar_types.specs.Environments.{DeclaredEnv}
 use Rattle.cedar_types.specs.Environments.RequestEnvs.{Env, Declared, Undeclared}
 use Rattle.cedar_types.specs.Names.{Text, Path, Uid, path_eq}
 use Rattle.cedar_types.specs.Schemas.{Schema}
 use Rattle.cedar_types.specs.Types.{Ty, TNever, TBool, TLong, TString, TSet, TAnySet, TRecord, TEntity, TAnyEntity, TExtension, sole}
 use Rattle.cedar_types.specs.Types.Lookups.{attribute_type}
 use Rattle.cedar_typing.specs.TypedExpr.{Mark, TypedTree}
-use Rattle.cedar_where.specs.Sql.{Sql, sql_null, sql_truth, sql_number, sql_text, sql_column, sql_own_id, sql_principal, sql_not}
-use Rattle.cedar_where.specs.Sql.{sql_and, sql_or, sql_case, sql_equal, sql_less, sql_less_equal, sql_is_not_null, sql_matches, sql_is_in, sql_is_in_any}
+use Rattle.cedar_where.specs.Routes.{Route, next_route, route}
+use Rattle.cedar_where.specs.Scopes.{Scope, scope_at}
+use Rattle.cedar_where.specs.Sql.{Sql, sql_null, sql_truth, sql_number, sql_text, sql_column, sql_own_id, sql_principal, sql_parameter, sql_not}
+use Rattle.cedar_where.specs.Sql.{sql_and, sql_or, sql_case, sql_equal, sql_less, sql_less_equal, sql_is_not_null, sql_matches, sql_is_among, sql_is_in, sql_is_in_any}
 
 -- the kind of a part's value, if it has one. SQL has only the id of an entity, so the kind has its type
 pub data Kind : Type 0 where
@@ -29,15 +30,6 @@ pub record Term : Type 0 where
   pub sql : Sql
   pub kind : Kind
   pub is_total : Bool
-
--- a schema, and the environment of the requests
-pub record Scope : Type 0 where
-  pub schema : Schema
-  pub principal : Path
-  pub action : Uid
-  pub resource : Path
-  -- the type of the entities of the resource's type
-  pub resource_type : Ty
 
 abbrev pub term : Sql → Kind → Bool → Term
 term e k b = record { sql = e; kind = k; is_total = b }
@@ -122,17 +114,36 @@ abbrev pub column_term : Text → Option (Ty × Bool) → Option Term
 column_term x None = None
 column_term x (Some a) = column_of_kind x a.1 (column_kind a.0)
 
--- an attribute of the resource
+-- ---- parameters
+
+abbrev pub parameter_of_kind : Route → Option Kind → Option Term
+parameter_of_kind r None = None
+parameter_of_kind r (Some k) = Some (term (sql_parameter r.variable r.path) k r.is_total)
+
+-- the value at the end of a path, if a parameter holds it
+abbrev pub parameter_term : Option Route → Option Term
+parameter_term None = None
+parameter_term (Some r) = parameter_of_kind r (column_kind r.end)
+
+-- ---- attributes
+
+-- an attribute of the resource, or one at the end of a path
 abbrev pub attribute_term : Scope → TypedTree → Text → Option Term
 attribute_term s (var m Var.Resource) x = column_term x (attribute_type s.schema s.resource_type x)
-attribute_term s e x = None
+attribute_term s e x = parameter_term (next_route s.schema x (route s e))
 
-abbrev pub has_column : Option Term → Option Term
-has_column None = None
-has_column (Some a) = Some (term (sql_is_not_null a.sql) KBool true)
+abbrev pub has_value : Option Term → Option Term
+has_value None = None
+has_value (Some a) = Some (term (sql_is_not_null a.sql) KBool true)
+
+-- NULL tells that the attribute is missing only if a value is always there before it
+abbrev pub has_behind : Option Route → Option Term → Option Term
+has_behind None y = None
+has_behind (Some r) y = if r.is_total then has_value y else None
 
 abbrev pub has_term : Scope → TypedTree → Text → Option Term
-has_term s e x = has_column (attribute_term s e x)
+has_term s (var m Var.Resource) x = has_value (attribute_term s (var m Var.Resource) x)
+has_term s e x = has_behind (route s e) (attribute_term s e x)
 
 -- ---- operators
 
@@ -229,14 +240,18 @@ abbrev pub entity_literal : TypedTree → Option Uid
 entity_literal (lit m (entity u)) = plain_entity u
 entity_literal e = None
 
-abbrev pub and_others : Option Uid → Option (List Uid) → Option (List Uid)
+abbrev pub and_others : {A : Type 0} → Option A → Option (List A) → Option (List A)
 and_others None r = None
 and_others (Some u) r = option_map (λ us. u ∷ us) r
 
+-- what all members of a set are, if each is a literal of this form
+abbrev pub literals : {A : Type 0} → (TypedTree → Option A) → Trees Mark → Option (List A)
+literals f no_trees = Some []
+literals f (tree e ts) = and_others (f e) (literals f ts)
+
 -- the entities of all members of a set, if each is written as one
 abbrev pub entity_literals : Trees Mark → Option (List Uid)
-entity_literals no_trees = Some []
-entity_literals (tree e ts) = and_others (entity_literal e) (entity_literals ts)
+entity_literals ts = literals entity_literal ts
 
 abbrev pub in_any_of : Term → Kind → List Uid → Option Term
 in_any_of a (KEntity p) us = Some (term (sql_is_in_any p a.sql us) KBool a.is_total)
@@ -251,10 +266,37 @@ abbrev pub in_operand : TypedTree → Option Term → Option Term → Option Ter
 in_operand (set_of m ts) x y = in_any x (entity_literals ts)
 in_operand b x y = binary_term BinaryOp.In x y
 
--- the right side of `in` may be a set of entities
-abbrev pub operator_term : BinaryOp → TypedTree → Option Term → Option Term → Option Term
-operator_term BinaryOp.In b x y = in_operand b x y
-operator_term o b x y = binary_term o x y
+-- ---- `contains` of a set of texts
+
+abbrev pub plain_text : Text → Option Text
+plain_text t = if is_plain t then Some t else None
+
+-- the text of a literal, if it is plain
+abbrev pub text_literal : TypedTree → Option Text
+text_literal (lit m (string t)) = plain_text t
+text_literal e = None
+
+-- the texts of all members of a set, if each is written as one
+abbrev pub text_literals : Trees Mark → Option (List Text)
+text_literals ts = literals text_literal ts
+
+abbrev pub among : Term → List Text → Option Term
+among a ts = if is_text a.kind then Some (term (sql_is_among a.sql ts) KBool a.is_total) else None
+
+abbrev pub among_texts : Option (List Text) → Option Term → Option Term
+among_texts None y = None
+among_texts (Some ts) None = None
+among_texts (Some ts) (Some a) = among a ts
+
+abbrev pub contains_term : TypedTree → Option Term → Option Term
+contains_term (set_of m ts) y = among_texts (text_literals ts) y
+contains_term e y = None
+
+-- the right side of `in` may be a set of entities, and the left one of `contains` a set of texts
+abbrev pub operator_term : BinaryOp → TypedTree → TypedTree → Option Term → Option Term → Option Term
+operator_term BinaryOp.In a b x y = in_operand b x y
+operator_term BinaryOp.Contains a b x y = contains_term a y
+operator_term o a b x y = binary_term o x y
 
 -- ---- `like` and `is`
 
@@ -292,7 +334,7 @@ compiled s (if_then_else m a b c) = None
 compiled s (and m a b) = and_term (compiled s a) (compiled s b)
 compiled s (or m a b) = or_term (compiled s a) (compiled s b)
 compiled s (unary m o a) = unary_term o (compiled s a)
-compiled s (binary m o a b) = operator_term o b (compiled s a) (compiled s b)
+compiled s (binary m o a b) = operator_term o a b (compiled s a) (compiled s b)
 compiled s (call m n ts) = None
 compiled s (get_attr m a x) = attribute_term s a x
 compiled s (has_attr m a x) = has_term s a x
@@ -308,15 +350,6 @@ compiled s (record_of m fs) = None
 abbrev pub clause_of : Option Term → Option Sql
 clause_of None = None
 clause_of (Some a) = if is_bool a.kind then Some a.sql else None
-
-abbrev pub scope_at : Schema → DeclaredEnv → Scope
-scope_at s d = record {
-  schema = s;
-  principal = d.principal;
-  action = d.action;
-  resource = d.resource;
-  resource_type = TEntity (d.resource ∷ []);
-}
 
 -- the clause in an environment. There is none for undeclared actions, because nothing is known of their requests
 abbrev pub clause_at : Schema → Env → TypedTree → Option Sql

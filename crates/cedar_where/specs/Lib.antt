@@ -1,6 +1,8 @@
 pub mod Sql
 pub mod Rows
 pub mod Meaning
+pub mod Scopes
+pub mod Routes
 pub mod Compiled
 pub mod Views
 pub mod Sets

@@ -2,7 +2,7 @@
 use Rattle.std.specs.Prelude.{◌≡◌, pos, true, false, [], ◌∷◌}
 use Rattle.cedar_types.specs.Names.{Path, Uid}
 use Rattle.cedar_where.specs.Sql.{Null, Truth, Data, sql_null, sql_truth, sql_number, sql_not, sql_and, sql_or, sql_case}
-use Rattle.cedar_where.specs.Sql.{sql_equal, sql_less, sql_less_equal, sql_is_not_null, sql_is_true, sql_matches, sql_is_in, sql_is_in_any}
+use Rattle.cedar_where.specs.Sql.{sql_equal, sql_less, sql_less_equal, sql_is_not_null, sql_is_true, sql_matches, sql_is_among, sql_is_in, sql_is_in_any}
 use Rattle.cedar_where.specs.Sql.{sql_own_id, value}
 
 pub record NullExamples (d : Data) (p : Path) (u : Uid) : Type 0 where
@@ -27,6 +27,7 @@ pub record NullExamples (d : Data) (p : Path) (u : Uid) : Type 0 where
   pub less : value d (sql_less sql_null (sql_number (pos 1))) ≡ Null
   pub less_equal : value d (sql_less_equal (sql_number (pos 1)) sql_null) ≡ Null
   pub matched : value d (sql_matches sql_null []) ≡ Null
+  pub null_among : value d (sql_is_among sql_null []) ≡ Null
   pub in_null : value d (sql_is_in p sql_own_id p sql_null) ≡ Null
   pub null_in : value d (sql_is_in p sql_null p sql_own_id) ≡ Null
   pub null_in_any : value d (sql_is_in_any p sql_null (u ∷ [])) ≡ Null

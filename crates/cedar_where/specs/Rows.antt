@@ -1,10 +1,12 @@
 -- The row of a resource, with the parameters beside it on which a query is run.
-use Rattle.std.specs.Prelude.{◌≡◌, Bool, Option, Some, None}
+use Rattle.std.specs.Prelude.{◌≡◌, Bool, List, [], ◌∷◌, Option, Some, None}
+use Rattle.cedar_types.specs.declared.base.expressions.operators.Var.{Var}
 use Rattle.cedar_types.specs.Names.{Text, Uid}
 use Rattle.cedar_types.specs.Values.{Value, VBool, VLong, VString, VEntity, VSet, VRecord, VExtension, entry_at}
-use Rattle.cedar_types.specs.Values.Stores.{Entity, entity_at}
-use Rattle.cedar_typing.specs.Evaluation.Eval.{has_ancestor}
-use Rattle.cedar_typing.specs.Evaluation.World.{World}
+use Rattle.cedar_types.specs.Values.Stores.{Entity, Store, entity_at}
+use Rattle.cedar_typing.specs.Evaluation.Eval.{has_ancestor, get, variable_value}
+use Rattle.cedar_typing.specs.Evaluation.Outcomes.{on_value}
+use Rattle.cedar_typing.specs.Evaluation.World.{World, Outcome, Gives, Fails}
 use Rattle.cedar_where.specs.Sql.{Cell, Null, Truth, Integer, Words, Undefined, Data}
 
 -- the cell of a value in a column: a truth value, a number, a text, or the id of an entity; sets, records and values of
@@ -23,12 +25,25 @@ abbrev pub cell_at : Option Value → Cell
 cell_at None = Null
 cell_at (Some v) = cell_of v
 
+-- the value at the end of a path of attributes, or the failure at the first that is not there
+abbrev pub along : Store → List Text → Outcome → Outcome
+along store [] o = o
+along store (x ∷ xs) o = along store xs (on_value o (get store x))
+
+-- NULL if there is no value
+abbrev pub outcome_cell : Outcome → Cell
+outcome_cell (Gives v) = cell_of v
+outcome_cell (Fails f) = Null
+
 -- the row holds the resource of a request, which is in the store: its id, and each attribute in the attribute's column; the
--- parameter is the principal's id; and the table of ancestors has the ancestors of the store
+-- parameters are the principal's id, and the value at the end of each path; and the table of ancestors has the ancestors of
+-- the store
 pub record IsRowOf (world : World) (d : Data) : Type 0 where
   pub entity : Entity
   pub stored : entity_at world.store world.request.resource ≡ Some entity
   pub attributes : (x : Text) → d.cells x ≡ cell_at (entry_at x entity.attributes)
   pub own_id : d.eid ≡ world.request.resource.eid
   pub principal : d.principal ≡ world.request.principal.eid
+  pub parameters : (v : Var) (xs : List Text)
+      → d.parameters v xs ≡ outcome_cell (along world.store xs (Gives (variable_value world.request v)))
   pub ancestors : (u v : Uid) → d.has_ancestor u v ≡ has_ancestor (entity_at world.store u) v

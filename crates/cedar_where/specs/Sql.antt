@@ -2,6 +2,7 @@
 use Rattle.std.specs.Prelude.{Bool, true, false, not, ◌||◌, List, ℤ, int_lt, int_le}
 use Rattle.std.specs.List.{list_any}
 use Rattle.std.specs.Ordering.{int_eq}
+use Rattle.cedar_types.specs.declared.base.expressions.operators.Var.{Var}
 use Rattle.cedar_types.specs.declared.base.expressions.patterns.PatternElem.{PatternElem}
 use Rattle.cedar_types.specs.Names.{Text, Path, Uid, text_eq, uid_eq}
 use Rattle.cedar_types.specs.Names.Comparisons.{bool_eq}
@@ -22,8 +23,9 @@ pub record Data : Type 0 where
   pub cells : Text → Cell
   -- the row's own id
   pub eid : Text
-  -- the parameter
+  -- the parameters: the principal's id, and what stands at the end of a path from a variable of the request
   pub principal : Text
+  pub parameters : Var → List Text → Cell
   -- whether the table of ancestors has the second entity as an ancestor of the first
   pub has_ancestor : Uid → Uid → Bool
 
@@ -32,10 +34,11 @@ pub data Sql : Type 0 where
   sql_truth : Bool → Sql
   sql_number : ℤ → Sql
   sql_text : Text → Sql
-  -- the column of an attribute, the column of the row's own id, the parameter
+  -- the column of an attribute, the column of the row's own id, the parameter of the principal's id, another parameter
   sql_column : Text → Sql
   sql_own_id : Sql
   sql_principal : Sql
+  sql_parameter : Var → List Text → Sql
   -- `NOT a`, `a AND b`, `a OR b`
   sql_not : Sql → Sql
   sql_and : Sql → Sql → Sql
@@ -51,6 +54,8 @@ pub data Sql : Type 0 where
   sql_is_true : Sql → Sql
   -- whether a text matches a pattern
   sql_matches : Sql → List PatternElem → Sql
+  -- whether a text is one of some texts
+  sql_is_among : Sql → List Text → Sql
   -- whether the entity of a type and an id is another, or has that as an ancestor
   sql_is_in : Path → Sql → Path → Sql → Sql
   -- whether the entity of a type and an id is one of some entities, or has one as an ancestor
@@ -159,7 +164,7 @@ ids_cell test c Null = null_beside c
 ids_cell test (Words s) (Words t) = Truth (test s t)
 ids_cell test c d = Undefined
 
--- a test of an id; NULL if the id is
+-- a test of an id or of another text; NULL if that is
 abbrev pub id_cell : (Text → Bool) → Cell → Cell
 id_cell test Null = Null
 id_cell test (Words s) = Truth (test s)
@@ -190,6 +195,7 @@ value d (sql_text t) = Words t
 value d (sql_column x) = d.cells x
 value d sql_own_id = Words d.eid
 value d sql_principal = Words d.principal
+value d (sql_parameter v xs) = d.parameters v xs
 value d (sql_not a) = not_cell (value d a)
 value d (sql_and a b) = and_cells (value d a) (value d b)
 value d (sql_or a b) = or_cells (value d a) (value d b)
@@ -200,5 +206,6 @@ value d (sql_less_equal a b) = ordered_cells int_le (value d a) (value d b)
 value d (sql_is_not_null a) = not_null_cell (value d a)
 value d (sql_is_true a) = true_cell (value d a)
 value d (sql_matches a p) = matches_cell p (value d a)
+value d (sql_is_among a ts) = id_cell (λ s. list_any (text_eq s) ts) (value d a)
 value d (sql_is_in p a q b) = ids_cell (is_id_within d p q) (value d a) (value d b)
 value d (sql_is_in_any p a us) = id_cell (is_id_within_any d p us) (value d a)

@@ -4,6 +4,7 @@ use Rattle.cedar_types.specs.Names.{text_of, type_of, uid_of}
 use Rattle.cedar_types.specs.Schemas.Contents.{schema_of}
 use Rattle.cedar_types.specs.Types.{ty_of}
 use Rattle.cedar_where.specs.declared.refusals.Refusal.{Refusal}
+use Rattle.cedar_where.specs.declared.routes.Route.{Route}
 use Rattle.cedar_where.specs.declared.scopes.Scope.{Scope}
 use Rattle.cedar_where.specs.declared.sql.SqlExpr.{SqlExpr, fold-SqlExpr}
 use Rattle.cedar_where.specs.declared.sql.SqlExpr.TheOpen as layer
@@ -12,10 +13,12 @@ use Rattle.cedar_where.specs.declared.terms.Kind.{Kind}
 use Rattle.cedar_where.specs.declared.terms.Kind.TheVariants as kind
 use Rattle.cedar_where.specs.declared.terms.Term.{Term}
 use Rattle.cedar_where.specs.Compiled as plain
+use Rattle.cedar_where.specs.Routes as routes
+use Rattle.cedar_where.specs.Scopes as scopes
 use Rattle.cedar_where.specs.Compiled.{KBool, KLong, KText, KEntity}
-use Rattle.cedar_where.specs.Sql.{Sql, sql_null, sql_truth, sql_number, sql_text, sql_column, sql_own_id, sql_principal, sql_not}
+use Rattle.cedar_where.specs.Sql.{Sql, sql_null, sql_truth, sql_number, sql_text, sql_column, sql_own_id, sql_principal, sql_parameter, sql_not}
 use Rattle.cedar_where.specs.Sql.{sql_and, sql_or, sql_case, sql_equal, sql_less, sql_less_equal, sql_is_not_null, sql_is_true}
-use Rattle.cedar_where.specs.Sql.{sql_matches, sql_is_in, sql_is_in_any}
+use Rattle.cedar_where.specs.Sql.{sql_matches, sql_is_among, sql_is_in, sql_is_in_any}
 
 -- a layer of an expression, over the trees of its parts
 abbrev pub sql_step : SqlExpr-F Sql → Sql
@@ -26,6 +29,7 @@ sql_step (layer.Text t) = sql_text (text_of t)
 sql_step (layer.Column x) = sql_column (text_of x)
 sql_step layer.OwnId = sql_own_id
 sql_step layer.Principal = sql_principal
+sql_step (layer.Parameter v xs) = sql_parameter v (map text_of xs.items)
 sql_step (layer.Not a) = sql_not a.value
 sql_step (layer.And a b) = sql_and a.value b.value
 sql_step (layer.Or a b) = sql_or a.value b.value
@@ -36,6 +40,7 @@ sql_step (layer.LessOrEqual a b) = sql_less_equal a.value b.value
 sql_step (layer.IsNotNull a) = sql_is_not_null a.value
 sql_step (layer.IsTrue a) = sql_is_true a.value
 sql_step (layer.Matches a p) = sql_matches a.value p.items
+sql_step (layer.IsAmong a ts) = sql_is_among a.value (map text_of ts.items)
 sql_step (layer.IsIn p a q b) = sql_is_in (type_of p) a.value (type_of q) b.value
 sql_step (layer.IsInAny p a us) = sql_is_in_any (type_of p) a.value (map uid_of us.items)
 
@@ -62,16 +67,26 @@ abbrev pub term_in : Result Term Refusal → Option plain.Term
 term_in (Ok t) = Some (term_of t)
 term_in (Err r) = None
 
-abbrev pub scope_of : Scope → plain.Scope
+abbrev pub scope_of : Scope → scopes.Scope
 scope_of s = record {
   schema = schema_of s.schema.now;
   principal = type_of s.principal.now;
   action = uid_of s.action.now;
   resource = type_of s.resource.now;
+  principal_type = ty_of s.principal_type.now;
   resource_type = ty_of s.resource_type.now;
+  context = ty_of s.context.now;
 }
 
 -- a clause, if there is one
 abbrev pub clause_in : Result SqlExpr Refusal → Option Sql
 clause_in (Ok e) = Some (sql_of e)
 clause_in (Err r) = None
+
+abbrev pub route_of : Route → routes.Route
+route_of r = record {
+  variable = r.variable;
+  path = map text_of r.path.items;
+  end = ty_of r.end;
+  is_total = r.is_total;
+}

@@ -193,6 +193,7 @@ fn strength(e: &SqlExpr) -> u32 {
         SqlExpr::Not(_) => 2,
         SqlExpr::Equal(_, _) | SqlExpr::Less(_, _) | SqlExpr::LessOrEqual(_, _) => 3,
         SqlExpr::IsNotNull(_) | SqlExpr::IsTrue(_) | SqlExpr::Matches(_, _) => 3,
+        SqlExpr::IsAmong(_, _) => 3,
         _ => 4,
     }
 }

@@ -19,10 +19,10 @@ use std::alloc::{AllocError, Global};
 /// The where-clause of a typed condition over the table of its environment's resource type, or the part of the condition that
 /// has none, with the reason.
 ///
-/// Over a row that holds the resource of a request of the environment (`IsRowOf`), with the principal's id as the parameter,
-/// the clause is TRUE if the condition is true, FALSE if it is false, and NULL if its evaluation fails (clause `means`). So a
-/// row is chosen exactly if the condition is true (clause `chosen`). `clause_at` tells which conditions have a clause, and
-/// which one it is (clause `exact`). If memory is refused, the answer is an `AllocError`.
+/// Over a row that holds the resource of a request of the environment (`IsRowOf`), with the parameters of the request, the
+/// clause is TRUE if the condition is true, FALSE if it is false, and NULL if its evaluation fails (clause `means`). So a row is
+/// chosen exactly if the condition is true (clause `chosen`). `clause_at` tells which conditions have a clause, and which one it
+/// is (clause `exact`). If memory is refused, the answer is an `AllocError`.
 pub fn where_clause(
     alloc: Global,
     schema: &ValidatorSchema,
@@ -57,15 +57,19 @@ fn clause_in_env(
             principal,
             action,
             resource,
+            context,
             ..
         } => {
+            let principal_type = CedarType::entity_reference(alloc, principal, schema)?;
             let resource_type = CedarType::entity_reference(alloc, resource, schema)?;
             let scope = Scope {
                 schema,
                 principal,
                 action,
                 resource,
+                principal_type: &principal_type,
                 resource_type: &resource_type,
+                context,
             };
             let compiled = compile(alloc, &scope, condition)?;
             Ok(clause(condition.loc, compiled))

@@ -1,14 +1,15 @@
-// Attributes of the resource, each in a column.
+// Attributes: those of the resource, each in a column, and those of which a parameter holds the value.
 ghost use Rattle.std.specs.Prelude.{◌≡◌, IfOk, option_map};
 ghost use Rattle.cedar_types.specs.Names.{text_of};
 ghost use Rattle.cedar_types.specs.Types.{ty_of};
 ghost use Rattle.cedar_types.specs.Types.Lookups.{attribute_view};
 ghost use Rattle.cedar_typing.specs.TypedExpr.{typed_tree};
-ghost use Rattle.cedar_where.specs.Compiled.{attribute_term, column_kind, column_term, has_column, has_term};
+ghost use Rattle.cedar_where.specs.Compiled.{attribute_term, column_kind, column_term, has_term, has_value};
 ghost use Rattle.cedar_where.specs.Views.{kind_of, scope_of, term_in};
 
 use crate::plain::is_plain;
 use crate::refusals::Reason;
+use crate::routes::{find_route, has_behind, next_route, parameter_term};
 use crate::scopes::{Scope, Typed};
 use crate::sql::SqlExpr;
 use crate::terms::{Compiled, Kind, made, refused};
@@ -16,7 +17,7 @@ use cedar_types::base::{AttributeType, CedarType, EntityKind, ExprKind, Loc, Var
 use std::alloc::{AllocError, Global};
 use std::rc::RcStr;
 
-/// `a.x`: the column of the attribute, if the base is the resource.
+/// `a.x`: the column of the attribute, if the base is the resource, and else the parameter of its path.
 pub(crate) fn attribute_term(
     alloc: Global,
     scope: &Scope<'_>,
@@ -37,7 +38,11 @@ pub(crate) fn attribute_term(
             )?;
             column_term(alloc, loc, name, found)
         }
-        _ => refused(loc, Reason::NotOfResource),
+        _ => {
+            let before = find_route(alloc, scope, base)?;
+            let at = next_route(alloc, scope.schema, name, before)?;
+            parameter_term(alloc, loc, at)
+        }
     }
 }
 
@@ -82,7 +87,7 @@ pub(crate) fn column_kind(ty: &CedarType) -> Result<Option<Kind>, AllocError>
     }
 }
 
-/// `a has x`: whether the column of the attribute is not NULL, if the base is the resource.
+/// `a has x`: whether the column of the attribute, or the parameter of its path, is not NULL.
 pub(crate) fn has_term(
     alloc: Global,
     scope: &Scope<'_>,
@@ -93,14 +98,18 @@ pub(crate) fn has_term(
     ensures { IfOk result (λ t.
         has_term (scope_of scope.now) (typed_tree base.now) (text_of name.now) ≡ term_in t) }
 {
-    has_column(alloc, attribute_term(alloc, scope, loc, base, name)?)
+    let value = attribute_term(alloc, scope, loc, base, name)?;
+    match &base.kind {
+        ExprKind::Var(Var::Resource) => has_value(alloc, value),
+        _ => has_behind(alloc, loc, find_route(alloc, scope, base)?, value),
+    }
 }
 
-fn has_column(alloc: Global, column: Compiled) -> Result<Compiled, AllocError>
-    ensures { IfOk result (λ t. has_column (term_in column) ≡ term_in t) }
+pub(crate) fn has_value(alloc: Global, value: Compiled) -> Result<Compiled, AllocError>
+    ensures { IfOk result (λ t. has_value (term_in value) ≡ term_in t) }
 {
-    match column {
+    match value {
         Err(refusal) => Ok(Err(refusal)),
-        Ok(column) => made(alloc, SqlExpr::IsNotNull(column.sql), Kind::Bool, true),
+        Ok(value) => made(alloc, SqlExpr::IsNotNull(value.sql), Kind::Bool, true),
     }
 }

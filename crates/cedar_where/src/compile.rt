@@ -46,7 +46,7 @@ pub(crate) fn compile(alloc: Global, scope: &Scope<'_>, e: &Typed) -> Result<Com
         }
         ExprKind::BinaryApp(op, left, right) => {
             let sides = (compile(alloc, scope, left)?, compile(alloc, scope, right)?);
-            operator_term(alloc, e.loc, *op, right, sides)
+            operator_term(alloc, e.loc, *op, left, right, sides)
         }
         ExprKind::ExtensionFunctionApp(_, _) => refused(e.loc, Reason::ExtensionFunction),
         ExprKind::GetAttr(base, name) => attribute_term(alloc, scope, e.loc, base, name),

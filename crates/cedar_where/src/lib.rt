@@ -17,12 +17,14 @@ mod operators;
 mod plain;
 mod quotes;
 mod refusals;
+mod routes;
 mod scopes;
 mod sets;
 mod sql;
 mod table_texts;
 mod tables;
 mod terms;
+mod text_sets;
 mod texts;
 mod type_tests;
 

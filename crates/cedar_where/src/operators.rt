@@ -10,6 +10,7 @@ use crate::membership::{entity_literals, in_any, in_term};
 use crate::refusals::Reason;
 use crate::scopes::Typed;
 use crate::terms::{Compiled, Term, refused};
+use crate::text_sets::contains_term;
 use cedar_types::base::{BinaryOp, ExprKind, Loc, UnaryOp};
 use std::alloc::{AllocError, Global};
 
@@ -28,24 +29,28 @@ pub(crate) fn unary_term(
     }
 }
 
-/// An operator on two parts. The right side of `in` may be a set of entities.
+/// An operator on two parts. The right side of `in` may be a set of entities, and the left one of `contains` a set of texts.
 pub(crate) fn operator_term(
     alloc: Global,
     loc: Option<Loc>,
     op: BinaryOp,
+    left: &Typed,
     right: &Typed,
     sides: (Compiled, Compiled),
 ) -> Result<Compiled, AllocError>
     ensures { IfOk result (λ t.
-        operator_term op (typed_tree right.now) (term_in sides.0) (term_in sides.1) ≡ term_in t) }
+        operator_term op (typed_tree left.now) (typed_tree right.now)
+        (term_in sides.0) (term_in sides.1) ≡ term_in t) }
 {
     match op {
         BinaryOp::In => in_operand(alloc, loc, right, sides),
+        BinaryOp::Contains => {
+            let (set, member) = sides;
+            contains_term(alloc, loc, left, set, member)
+        }
         BinaryOp::Eq | BinaryOp::Less | BinaryOp::LessEq => binary_term(alloc, loc, op, sides),
         BinaryOp::Add | BinaryOp::Sub | BinaryOp::Mul => binary_term(alloc, loc, op, sides),
-        BinaryOp::Contains | BinaryOp::ContainsAll | BinaryOp::ContainsAny => {
-            binary_term(alloc, loc, op, sides)
-        }
+        BinaryOp::ContainsAll | BinaryOp::ContainsAny => binary_term(alloc, loc, op, sides),
         BinaryOp::GetTag | BinaryOp::HasTag => binary_term(alloc, loc, op, sides),
     }
 }

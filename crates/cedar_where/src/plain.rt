@@ -2,6 +2,7 @@
 ghost use Rattle.std.specs.Prelude.{◌≡◌, not};
 ghost use Rattle.std.specs.List.{list_all};
 ghost use Rattle.cedar_where.specs.Compiled.{is_plain, is_plain_elem, is_plain_pattern, is_replaced};
+ghost use Rattle.cedar_where.specs.Routes.{is_word, is_word_byte};
 
 use cedar_types::base::PatternElem;
 
@@ -34,4 +35,20 @@ fn is_replaced(c: char) -> bool
     ensures { result ≡ is_replaced c }
 {
     c == '\u{fffd}' || c == '\u{fffe}' || c == '\u{ffff}'
+}
+
+/// Whether a name has only letters of ASCII, digits and `_`, so that it may stand in the name of a parameter.
+pub(crate) fn is_word(name: &str) -> bool
+    ensures { result ≡ is_word name.now }
+{
+    name.as_bytes().iter().all(is_word_byte)
+}
+
+fn is_word_byte(byte: &u8) -> bool
+    ensures { result ≡ is_word_byte byte.now }
+{
+    let is_small = b'a' <= *byte && *byte <= b'z';
+    let is_large = b'A' <= *byte && *byte <= b'Z';
+    let is_digit = b'0' <= *byte && *byte <= b'9';
+    is_small || is_large || is_digit || *byte == b'_'
 }

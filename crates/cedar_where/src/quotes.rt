@@ -1,6 +1,7 @@
 // Names, texts, patterns and lists of ids, as SQLite reads them.
-use cedar_types::base::{EntityType, EntityUID, PatternElem};
+use cedar_types::base::{EntityType, EntityUID, PatternElem, Var};
 use std::fmt;
+use std::rc::RcStr;
 
 /// The name of the table of ancestors. It has a blank, because no entity type does.
 pub(crate) const ANCESTORS: &str = "entity ancestors";
@@ -32,6 +33,25 @@ pub(crate) fn write_column<W: fmt::Write>(
     write_quoted(f, '"', column)
 }
 
+/// Writes the parameter of a path: the variable, and each attribute behind `$`, which no name of a parameter's attribute has.
+pub(crate) fn write_parameter<W: fmt::Write>(
+    f: &mut fmt::Formatter<W>,
+    variable: Var,
+    path: &[RcStr],
+) -> fmt::Result {
+    let name = match variable {
+        Var::Principal => "principal",
+        Var::Action => "action",
+        Var::Resource => "resource",
+        Var::Context => "context",
+    };
+    write!(f, ":{name}")?;
+    for attribute in path {
+        write!(f, "${}", attribute.as_str())?;
+    }
+    Ok(())
+}
+
 /// Writes GLOB and its pattern, in which `*`, `?` and `[` stand for themselves within brackets.
 pub(crate) fn write_pattern<W: fmt::Write>(
     f: &mut fmt::Formatter<W>,
@@ -47,6 +67,24 @@ pub(crate) fn write_pattern<W: fmt::Write>(
         }
     }
     write!(f, "'")
+}
+
+/// Writes IN and a list of texts. No text is less than the empty one, and NULL stays NULL: of an empty list SQLite says FALSE even
+/// beside NULL.
+pub(crate) fn write_texts<W: fmt::Write>(
+    f: &mut fmt::Formatter<W>,
+    texts: &[RcStr],
+) -> fmt::Result {
+    if texts.is_empty() {
+        return write!(f, " < ''");
+    }
+    let mut mark = " IN (";
+    for text in texts {
+        write!(f, "{mark}")?;
+        write_quoted(f, '\'', text)?;
+        mark = ", ";
+    }
+    write!(f, ")")
 }
 
 /// Writes the test whether an id before it is one of the ids of the entities of a type, up to another test.

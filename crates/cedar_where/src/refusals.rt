@@ -33,8 +33,12 @@ pub enum Reason {
     Tag,
     /// No function of SQL is an extension function.
     ExtensionFunction,
-    /// Only attributes of the resource itself are in its row.
+    /// Only attributes of the resource itself are in its row, and a request gives only those behind the
+    /// principal and the context.
     NotOfResource,
+    /// No parameter holds a set, a record, a value of an extension type or an entity of several types. None
+    /// tells whether an attribute is there behind a value that may be missing.
+    NoParameter,
     /// No column of the table has the attribute.
     NoColumn,
     /// A text, an id or a name with NUL, which no driver takes, or with a backslash, which begins an
@@ -73,6 +77,7 @@ impl fmt::Display for Reason {
             Reason::Tag => write!(f, "no column has a tag"),
             Reason::ExtensionFunction => write!(f, "an extension function has no clause"),
             Reason::NotOfResource => write!(f, "only attributes of the resource are in its row"),
+            Reason::NoParameter => write!(f, "no parameter has this value"),
             Reason::NoColumn => write!(f, "no column has this attribute"),
             Reason::Text => write!(f, "a text with NUL or a backslash has no clause"),
             Reason::Pattern => write!(

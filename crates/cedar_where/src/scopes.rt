@@ -11,6 +11,10 @@ pub(crate) struct Scope<'a> {
     pub(crate) principal: &'a EntityType,
     pub(crate) action: &'a EntityUID,
     pub(crate) resource: &'a EntityType,
+    /// The type of the entities of the principal's type alone.
+    pub(crate) principal_type: &'a CedarType,
     /// The type of the entities of the resource's type alone.
     pub(crate) resource_type: &'a CedarType,
+    /// The type of the context, a record.
+    pub(crate) context: &'a CedarType,
 }

@@ -1,8 +1,8 @@
 // Expressions of SQL as trees.
-use cedar_types::base::{EntityType, EntityUID, PatternElem};
+use cedar_types::base::{EntityType, EntityUID, PatternElem, Var};
 use std::rc::RcStr;
 
-/// An expression of SQL over a row of the table of the resources, with a parameter for the principal's id and a table of
+/// An expression of SQL over a row of the table of the resources, with parameters that a request gives and a table of
 /// ancestors. `Table::text_of` writes its text, with 1 and 0 for TRUE and FALSE. A recursion as deep as the tree drops it.
 #[derive(Debug)]
 pub enum SqlExpr {
@@ -20,6 +20,12 @@ pub enum SqlExpr {
     OwnId,
     /// The parameter that holds the principal's id.
     Principal,
+    /// The parameter that holds the value at the end of a path of attributes from a variable of the
+    /// request, and NULL if there is none.
+    Parameter {
+        variable: Var,
+        path: Vec<RcStr>,
+    },
     /// `NOT a`.
     Not(Box<SqlExpr>),
     /// `a AND b`.
@@ -44,6 +50,8 @@ pub enum SqlExpr {
     IsTrue(Box<SqlExpr>),
     /// Whether a text matches a pattern.
     Matches(Box<SqlExpr>, Vec<PatternElem>),
+    /// Whether a text is one of these: `a IN (..)`.
+    IsAmong(Box<SqlExpr>, Vec<RcStr>),
     /// Whether the first entity is the second, or the table of ancestors has the second as an ancestor of the first; NULL if an
     /// id is.
     IsIn {
@@ -71,6 +79,10 @@ impl Drop for SqlExpr {
             SqlExpr::Column(_) => {}
             SqlExpr::OwnId => {}
             SqlExpr::Principal => {}
+            SqlExpr::Parameter {
+                variable: _,
+                path: _,
+            } => {}
             SqlExpr::Not(_) => {}
             SqlExpr::And(_, _) => {}
             SqlExpr::Or(_, _) => {}
@@ -85,6 +97,7 @@ impl Drop for SqlExpr {
             SqlExpr::IsNotNull(_) => {}
             SqlExpr::IsTrue(_) => {}
             SqlExpr::Matches(_, _) => {}
+            SqlExpr::IsAmong(_, _) => {}
             SqlExpr::IsIn {
                 entity_type: _,
                 eid: _,

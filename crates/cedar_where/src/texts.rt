@@ -4,7 +4,7 @@
 use crate::chains::{Chain, Kept, Place, Turn};
 use crate::quotes::{
     write_ancestor, write_ancestor_among, write_ancestor_query, write_column, write_ids_of_type,
-    write_pattern, write_quoted,
+    write_parameter, write_pattern, write_quoted, write_texts,
 };
 use crate::sql::SqlExpr;
 use crate::tables::{ID_COLUMN, Table};
@@ -132,6 +132,10 @@ fn write_expr<W: fmt::Write>(
             write_expr(f, table, &mut parts, a)?;
             write_pattern(f, pattern)?;
         }
+        SqlExpr::IsAmong(a, texts) => {
+            write_expr(f, table, &mut parts, a)?;
+            write_texts(f, texts)?;
+        }
         SqlExpr::IsIn {
             entity_type,
             eid,
@@ -178,6 +182,7 @@ fn write_leaf<W: fmt::Write>(f: &mut fmt::Formatter<W>, table: &str, e: &SqlExpr
         SqlExpr::Column(name) => write_column(f, table, name),
         SqlExpr::OwnId => write_column(f, table, ID_COLUMN),
         SqlExpr::Principal => write!(f, ":principal"),
+        SqlExpr::Parameter { variable, path } => write_parameter(f, *variable, path),
         _ => write!(f, "NULL"),
     }
 }
