@@ -5,8 +5,9 @@ PROGRAM is cedar_language_server, by default as it is built without a proof. Ins
 sessions on files, by a schema of 300 actions that share their types. A session opens a document of 10 or of 1,000 policies; the
 figure of a keystroke is that of one more change, which writes one character more into the condition of a policy in the middle,
 about one action or about all. The editor sends each change as a range or as the whole text. Hover, completion and definition are
-asked once more each. The memory of 10,000 changes is held by scripts/editor_cases.py. It needs valgrind, and is no part of the
-gate.
+asked once more each. Large changes are measured too: a whole text in which each policy is another, a notification of many ranges, and
+a letter among policies that all have a fault and stand on one line. The memory of 10,000 changes is held by scripts/editor_cases.py.
+It needs valgrind, and is no part of the gate.
 """
 import subprocess
 import sys
@@ -55,6 +56,11 @@ def session(bench, policies, middle, changes=0, by_ranges=True, asked=()):
         edit = {"range": {"start": place, "end": place}, "text": TAIL[count]} if by_ranges else {"text": text(policies, middle, TAIL[: count + 1])}
         sent.append(note("textDocument/didChange", {"textDocument": {"uri": uri, "version": count + 2}, "contentChanges": [edit]}))
     sent += [request(9, f"textDocument/{method}", position(uri, first + 2, at)) for method, at in asked]
+    return instructions(bench, sent)
+
+
+def instructions(bench, sent):
+    """The instructions of a session in which these messages are sent, and then those that end it."""
     given = b"".join(map(frame, [*sent, request(10, "shutdown"), note("exit")]))
     below = valgrind("cachegrind", "--cache-sim=no", "--cachegrind-out-file=/dev/null")
     done = subprocess.run([*below, bench.program], cwd=bench.room, input=given, capture_output=True)
@@ -85,6 +91,48 @@ def question(method, at):
     return figure
 
 
+BEGUN = [request(1, "initialize", {"capabilities": {}}), note("initialized", {})]
+
+
+def edited(uri, edits):
+    return note("textDocument/didChange", {"textDocument": {"uri": uri, "version": 2}, "contentChanges": edits})
+
+
+def inserted(line, character, letters):
+    place = {"line": line, "character": character}
+    return {"range": {"start": place, "end": place}, "text": letters}
+
+
+def large(text_of, edits_of):
+    """The figure of a change of a document, by the number of its policies."""
+    def figure(bench, size):
+        bench.write("s.cedarschema", SCHEMA)
+        uri = f"file://{bench.room}/p.cedar"
+        begun = [*BEGUN, note("textDocument/didOpen", document(uri, text_of(size)))]
+        return millions(instructions(bench, [*begun, edited(uri, edits_of(size))]) - instructions(bench, begun))
+    return figure
+
+
+def changed_text(size):
+    """Another text of so many policies, of which none is as before."""
+    return [{"text": text(size, policy).replace("> 10", "> 11")}]
+
+
+def ranges(size):
+    """An edit in each policy, in its fourth line."""
+    lines = text(size, policy).splitlines()
+    return [inserted(at, lines[at].index("> 10") + 4, "1") for at in range(3, len(lines), 4)]
+
+
+def faulty(size):
+    """So many policies with a fault, on one line."""
+    return "permit(principal, action, resource) when { principal. }; " * size
+
+
+def letter(size):
+    return [inserted(0, size // 2 * len(faulty(1)) + 20, "x")]
+
+
 LINE = "{what}, in a document of {size} policies by 300 actions of shared types: {figure} million instructions"
 ROWS = (
     Row("a schema is read and a document opened", (10, 1000), lambda bench, size: millions(opened(bench, size, policy)), LINE),
@@ -94,6 +142,9 @@ ROWS = (
     Row("hover", (10,), question("hover", 25), LINE, most=2.5),
     Row("completion", (10,), question("completion", 34), LINE, most=2.5),
     Row("definition", (10,), question("definition", 34), LINE, most=2.5),
+    Row("another text of each policy, sent as the whole text", (500, 2000), large(lambda size: text(size, policy), changed_text), LINE),
+    Row("a letter in each policy, sent as ranges at once", (500, 2000), large(lambda size: text(size, policy), ranges), LINE),
+    Row("a letter among policies with a fault, on one line", (500, 2000), large(faulty, letter), LINE),
 )
 
 
