@@ -3,8 +3,7 @@ ghost use Rattle.std.specs.Prelude.{◌≡◌, ◌+◌, ◌≤◌, ◌++◌, dro
 ghost use Rattle.cedar_editor.specs.Documents.{is_said_by, moved_policy, placed_policy, AllStandIn, AreRightlySaidBy, BeginsBehind, EndsBy};
 
 use crate::checks::{CheckedPolicy, judged, unjudged};
-use crate::documents::PlacedPolicy;
-use crate::judges::Judge;
+use crate::documents::{Judge, PlacedPolicy};
 use crate::lines::moved;
 use crate::readings::{Reading, is_read_alone, read_policy, reading_of};
 use crate::tokens::behind_blanks;
@@ -215,7 +214,7 @@ fn policy_of<C: ArgumentCheck>(
     };
     let policy = match judge {
         Judge::Reading(_) => unjudged(alloc, own, reading)?,
-        Judge::Settings(shared) => judged(alloc, &shared.settings(), own, reading)?,
+        Judge::Settings(settings) => judged(alloc, settings, own, reading)?,
     };
     Ok(Some(Rc::new(alloc, policy)?))
 }
