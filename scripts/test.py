@@ -7,7 +7,7 @@ refused; `queries`, where-clauses in SQLite; `applications`, all that cedar-vali
 texts; `callers`, the C library called from other languages; `page`, the page in a browser; `release` and `packages`, a
 release and its packages as users have them; and `editors`, the language server as editors use it. Languages, browsers and
 editors that the machine has not are skipped.
-Without words all run, side by side where processors are free.
+Without words all run but `page`, `release` and `packages`, side by side where processors are free.
 
 The programs are built without a proof (scripts/unproved.py) and kept, so that a second run builds nothing where no text
 has changed. Nothing is proved: `scripts/prove` proves, and runs what Rattle's own compiler builds. The last line counts what
@@ -182,6 +182,8 @@ def packages():
 # stand behind it.
 LINES = ((programs, refused, queries, editors), (tests, texts), (product, applications, pieces), (callers, page, release, packages))
 PARTS = {part.__name__: part for line in LINES for part in line}
+# Parts that run only if they are named, because each builds a release or a module for browsers.
+NAMED = (page, release, packages)
 
 
 class Counts:
@@ -210,7 +212,7 @@ def main(words):
         print("0 passed, 1 failed")
         return 2
     begun, counts = time.monotonic(), Counts()
-    lines = [[part for part in line if not words or part.__name__ in words] for line in LINES]
+    lines = [[part for part in line if (part.__name__ in words if words else part not in NAMED)] for line in LINES]
     with ThreadPoolExecutor(min(len(os.sched_getaffinity(0)), len(LINES))) as lanes:
         for done in [lanes.submit(counts.run, line) for line in lines]:
             done.result()
