@@ -2,7 +2,8 @@
 """Tries the language server as editors use it: scripts/editor_cases.py [--record] [PROGRAM].
 
 PROGRAM is cedar_language_server, by default as it is built without a proof. A client sends messages in each phase, frames that
-no editor sends, texts with characters of one to four bytes, edits of ranges, and 10,000 changes. Each editor that the machine has is
+no editor sends, texts with characters of one to four bytes, edits of ranges, settings, schemas of several files, 10,000 changes, and
+random steps of an editor and of the disk (gate/editor_steps.py). Each editor that the machine has is
 set up by the blocks of docs/EDITORS.md (gate/editors.py), and does what a person does, by a session of examples/editors. What
 Neovim sees must be examples/editors/neovim.txt, which --record writes, and docs/EDITORS.md shows. An editor that is missing is skipped, which is said.
 The last line counts what went well and what did not.
@@ -16,7 +17,7 @@ import tempfile
 from pathlib import Path
 
 import unproved
-from gate import editors
+from gate import editor_steps, editors
 from gate.editor_client import Client, NoAnswer, document, note, position, request
 
 SECONDS = 600
@@ -101,16 +102,6 @@ def ends(counts, program):
         client.process.stdout.close()
         client.send(request(1, "x"))
         counts.want("nobody reads the answers", (status := client.process.wait(SECONDS)) != 0, status)
-
-
-def names(counts, program, room):
-    """A copy of the program starts on the PATH under any name."""
-    home = room / "bin"
-    home.mkdir()
-    shutil.copy(program, home / "of-another-name")
-    with Client("of-another-name", {**os.environ, "PATH": f"{home}:{os.environ['PATH']}"}) as client:
-        answer = client.start()
-        counts.want("a server of another name", answer["result"]["serverInfo"]["name"] == "cedar-language-server", answer)
 
 
 def frames(counts, program):
@@ -203,6 +194,108 @@ def changes(counts, program, room):
         counts.want("the end behind 10,000 changes", (status := client.end()) == 0, status)
 
 
+def command_line(counts, program, room):
+    """A copy under any name on the PATH starts, and answers its words."""
+    home = room / "bin"
+    home.mkdir()
+    shutil.copy(program, home / "of-another-name")
+    env = {**os.environ, "PATH": f"{home}:{os.environ['PATH']}"}
+
+    def ran(*given):
+        return subprocess.run(["of-another-name", *given], env=env, stdin=subprocess.DEVNULL, capture_output=True, text=True, timeout=SECONDS)
+
+    done = ran("--version")
+    counts.want("--version", done.returncode == 0 and re.fullmatch(r"cedar-language-server \d+\.\d+\.\d+, Cedar 4\.14\.1\n", done.stdout), done)
+    done = ran("--help")
+    counts.want("--help", done.returncode == 0 and done.stdout.startswith("usage: cedar-language-server [--stdio]\n"), done)
+    done = ran("--stdio", "x")
+    counts.want("an unknown word", done.returncode == 2 and not done.stdout and "unknown word x" in done.stderr, done)
+    counts.want("the end of an input without a message", (done := ran("--stdio")).returncode == 1 and not done.stdout, done)
+    with Client("of-another-name", env) as client:
+        answer = client.start()
+        counts.want("a server of another name", answer["result"]["serverInfo"]["name"] == "cedar-language-server", answer)
+
+
+def messages_of(client):
+    """The messages for the user, and the requests, that were sent before the answer to the next request."""
+    client.number += 1
+    client.send(request(client.number, "x/settled"))
+    found = []
+    while (message := client.read()).get("id") != client.number:
+        found += [message["params"].get("message", message["method"])] if "method" in message and "Diagnostics" not in message["method"] else []
+    return found
+
+
+# Settings that cannot be read, and the beginning of the message about each.
+BAD_SETTINGS = {
+    "mode": (("strickt", 1, ["strict"]), "the setting `mode` must be"),
+    "level": (("1", -1, 1.5, 4294967296, [1]), "the setting `level` must be"),
+    "schema": ((1, {"a": 1}, [1], ["/x", None], "a.cedarschema", "untitled:x", "http://x/y"), "the setting `schema` must be"),
+}
+
+
+def settings(counts, program, room):
+    """Settings that cannot be read are said, at the beginning and when they change; those that can be read count at once."""
+    folder = room / "settings"
+    folder.mkdir()
+    (folder / "a.cedarschema").write_text(SCHEMA)
+    uri, text = f"file://{folder}/p.cedar", "permit(principal, action, resource) when { principal.nam == principal.name };"
+    for key, (values, message) in BAD_SETTINGS.items():
+        for value in values:
+            with Client(program) as client:
+                client.start({key: value})
+                counts.want(f"{key} {value!r} at the beginning", len(said := messages_of(client)) == 1 and said[0].startswith(message), said)
+                counts.want(f"a file is checked with {key} {value!r}", len(found := client.open(uri, text)) == 1, found)
+                client.tell("workspace/didChangeConfiguration", {"settings": {"cedar": {key: value}}})
+                counts.want(f"{key} {value!r} later", len(said := messages_of(client)) == 1 and said[0].startswith(message), said)
+    with Client(program) as client:
+        client.start([1])
+        counts.want("settings that are no object", (said := messages_of(client)) == ["the settings must be an object"], said)
+    with Client(program) as client:
+        client.start({"schema": str(folder / "none.cedarschema"), "level": None})
+        said = messages_of(client)
+        counts.want("a schema that is not there", said == [f"the schema of the settings cannot be read: {folder}/none.cedarschema"], said)
+        client.tell("workspace/didChangeConfiguration", {"settings": {}})
+        counts.want("it is not there later", messages_of(client) == said)
+        shown = [it["message"] for it in client.open(uri, text.replace(".nam ", ".name "))]
+        counts.want("policies by a schema that is not there", shown == ["a file of the schema cannot be read: policies are read, and not checked"], shown)
+        for changed, size in (({"schema": None}, 0), ({"schema": str(folder)}, 0), ({"schema": [f"file://{folder}/a.cedarschema"], "level": 0}, 2), ({"schema": ""}, 0)):
+            client.tell("workspace/didChangeConfiguration", {"settings": {"cedar": changed}})
+            counts.want(f"the settings {changed}", len(found := client.published(uri)) == size, found)
+    with Client(program) as client:
+        client.ask("initialize", {"rootUri": f"file://{folder}", "capabilities": {"workspace": {"didChangeWatchedFiles": {"dynamicRegistration": True}}},
+                                  "initializationOptions": {"schema": "a.cedarschema"}})
+        client.tell("initialized", {})
+        counts.want("schemas are watched", (said := messages_of(client)) == ["client/registerCapability"], said)
+        counts.want("a schema below the open folder", len(found := client.open("untitled:1", text)) == 1, found)
+
+
+def files(counts, program, room):
+    """All schemas of a folder are one schema; what cannot be one is none, and costs no memory."""
+    folder = room / "files"
+    (folder / "c.cedarschema").mkdir(parents=True)
+    (folder / "a.cedarschema").write_text("entity User { team: Team };\naction view appliesTo { principal: User, resource: User };\n")
+    (folder / "b.cedarschema").write_text("entity Team { name: String };\n")
+    (folder / "d.cedarschema").symlink_to("/dev/zero")
+    (folder / ".#a.cedarschema").symlink_to("user@host.12:34")
+    os.mkfifo(folder / "e.cedarschema")
+    with open(folder / "f.cedarschema", "wb") as large:
+        large.truncate((64 << 20) + 1)
+    uri = f"file://{folder}/p.cedar"
+    with Client(program) as client:
+        client.start()
+        found = client.open(uri, "permit(principal, action, resource) when { principal.team.name == principal.team.nam };")
+        counts.want("two files of one schema", len(found) == 1 and "`nam` does not exist on `Team`" in found[0]["message"], found)
+        counts.want("files that are no schemas cost no memory", (held := client.memory()) < 100_000, held)
+        places = [client.ask("textDocument/definition", position(uri, 0, byte))["result"] for byte in (54, 59)]
+        counts.want("definitions in two files", [[Path(it["uri"]).name for it in each] for each in places] == [["a.cedarschema"], ["b.cedarschema"]], places)
+        found = client.open(f"file://{folder}/b.cedarschema", "entity Team { nam: Strin };\n")
+        counts.want("a fault stands in its file", [it["range"]["start"]["character"] for it in found] == [19], found)
+        found = client.open(f"file://{folder}/a.cedarschema", (folder / "a.cedarschema").read_text())
+        counts.want("and not in the other one", found == [], found)
+        counts.want("the end", (status := client.end()) == 0, status)
+
+
 def main(words):
     is_recorded = words[:1] == ["--record"]
     programs = words[is_recorded:]
@@ -210,7 +303,8 @@ def main(words):
     counts = Counts()
     with tempfile.TemporaryDirectory(prefix="editors-") as held:
         room = Path(held).resolve()
-        of_server = ((phases,), (ends,), (names, room), (frames,), (positions, room), (changes, room), (editors.neovim, room, is_recorded), (editors.emacs, room))
+        of_server = ((phases,), (ends,), (frames,), (command_line, room), (settings, room), (files, room), (editor_steps.steps, room), (positions, room),
+                     (changes, room), (editors.neovim, room, is_recorded), (editors.emacs, room))
         parts = [(each, program, *more) for each, *more in of_server] + [(editors.vim, room), (editors.vscode,)]
         for each, *given in parts:
             try:

@@ -100,8 +100,6 @@ starts."
 ;;;###autoload
 (define-derived-mode cedar-schema-mode cedar-mode "Cedar schema"
   "A mode for Cedar schemas."
-  ;; The server takes the first schema of a folder by name, and the name of a lock file comes first.
-  (setq-local create-lockfiles nil)
   (setq-local font-lock-defaults '(cedar-schema-font-lock-keywords)))
 
 ;;;###autoload

@@ -19,7 +19,7 @@ FOLDER = TOP / "editors" / "vscode"
 PACKAGE = json.loads((FOLDER / "package.json").read_text(encoding="utf8"))
 READING = (TOP / "docs" / "READING.md").read_text(encoding="utf8")
 EDITORS = (TOP / "docs" / "EDITORS.md").read_text(encoding="utf8")
-SERVER = TOP / "crates" / "cedar_language_server" / "src" / "notes.rt"
+SERVER = TOP / "crates" / "cedar_language_server" / "src" / "options.rt"
 # Words between « and » in a piece of a file, and the scope that each of their characters has.
 TOUR = {
     "examples/tour/share.cedar": (
@@ -212,7 +212,7 @@ def package(counts):
     counts.want("the mark of a comment", configuration["comments"] == {"lineComment": "//"}, configuration["comments"])
     settings = sorted(has["configuration"]["properties"])
     asked = sorted(f"cedar.{it}" for it in re.findall(r'settings\.get\("([\w.]+)"\)', (FOLDER / PACKAGE["main"]).read_text(encoding="utf8")))
-    read = sorted(f"cedar.{it}" for it in ("server.path", *re.findall(r'(?:text_at\(options, |options\?\.get\()"(\w+)"\)', SERVER.read_text(encoding="utf8"))))
+    read = sorted(f"cedar.{it}" for it in ("server.path", *re.findall(r'said\.get\("(\w+)"\)', SERVER.read_text(encoding="utf8"))))
     counts.want("the settings that are declared and asked", settings == asked, (settings, asked))
     counts.want("the settings that the server reads", settings == read, (settings, read))
     readme = (FOLDER / "README.md").read_text(encoding="utf8")

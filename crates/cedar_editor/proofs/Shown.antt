@@ -1,5 +1,7 @@
 -- Policies that are shown without an error.
-use Rattle.std.proofs.Common.{◌≡◌, ℕ, ◌<◌, Bool, true, false, ◌&&◌, not, Option, Some, None, List, [], ◌∷◌, length, refl, sym, ap, ◌∙◌, subst, arith}
+use Rattle.std.proofs.Common.{◌≡◌, ℕ, ◌<◌, Bool, true, false, ◌&&◌, not, Option, Some, None, List, [], ◌∷◌, get_or, length, refl, sym, ap, ◌∙◌, subst, arith}
+use Rattle.std.proofs.Math.Logic.{∥∥₁_map}
+use Rattle.cedar_types.specs.Extensions.Functions.{Refusals}
 use Rattle.cedar_types.specs.Templates.{PlainTemplate, template_of}
 use Rattle.cedar_typing.specs.Soundness.Policies.{Basis}
 use Rattle.cedar_findings.specs.declared.faults.TextFault.{TextFault}
@@ -7,7 +9,10 @@ use Rattle.cedar_findings.specs.declared.findings.Finding.{Finding}
 use Rattle.cedar_findings.specs.declared.findings.Verdict.{Verdict}
 use Rattle.cedar_verdicts.specs.Verdicts.{finds_nothing, IsPromised, IsRightVerdict, IsWholeVerdict}
 use Rattle.cedar_editor.specs.Checks.{has_any, has_shown_error, is_rightly_said_of, shows_error, IsRightlySaid, IsSafeAsShown}
+use Rattle.cedar_editor.specs.Documents.{shared_basis, AreRightlySaidBy, KeepThePromise}
 use Rattle.cedar_editor.specs.declared.checks.CheckedPolicy.{CheckedPolicy}
+use Rattle.cedar_editor.specs.declared.documents.PlacedPolicy.{PlacedPolicy}
+use Rattle.cedar_editor.specs.declared.judges.Judge.{Judge}
 
 -- a list has an item exactly if it is not empty
 pub none_of : (fs : List Finding) → has_any fs ≡ false → length fs ≡ 0
@@ -57,3 +62,10 @@ safe_said b level p None (Some v) is_fault is_verdict said =
 
 pub is_safe : (b : Basis) (level : Option ℕ) (p : CheckedPolicy) → IsRightlySaid b level p → IsSafeAsShown b level p
 is_safe b level p said = safe_said b level p p.fault p.verdict refl refl said
+
+-- policies whose verdicts come from a judge keep its promise
+pub keep : {C : Type 0} (meaning : C → Refusals) (judge : Judge C) (ps : List PlacedPolicy) → ∥ AreRightlySaidBy meaning judge ps ∥₁
+    → KeepThePromise meaning judge ps
+keep meaning (Judge.Reading functions) ps right = tt
+keep meaning (Judge.Settings s) ps right = λ silent. ∥∥₁_map right (λ all k d h.
+    (is_safe (shared_basis meaning s) s.level (get_or ps k d).policy.value (all k d h)).promised (silent k d h))

@@ -2,19 +2,25 @@
 use Rattle.std.specs.Prelude.{◌≡◌, ℕ, ◌+◌, ◌<◌, ◌≤◌, List, All, true, false, length, slice_range, string_bytes}
 use Rattle.cedar_types.specs.Extensions.Functions.{Refusals}
 use Rattle.cedar_types.specs.Templates.{template_of}
-use Rattle.cedar_verdicts.specs.Verdicts.{basis_of, IsPromised}
-use Rattle.cedar_verdicts.specs.declared.settings.Settings.{Settings}
+use Rattle.cedar_typechecker.specs.ValidatorViews.{basis_in}
+use Rattle.cedar_typing.specs.Soundness.Policies.{Basis}
+use Rattle.cedar_verdicts.specs.Verdicts.{IsPromised}
 use Rattle.cedar_editor.specs.Checks.{has_shown_error, IsRightlySaid}
 use Rattle.cedar_editor.specs.Lines.{moved_byte}
 use Rattle.cedar_editor.specs.declared.checks.CheckedPolicy.{CheckedPolicy}
-use Rattle.cedar_editor.specs.declared.documents.Judge.{Judge}
 use Rattle.cedar_editor.specs.declared.documents.PlacedPolicy.{PlacedPolicy}
+use Rattle.cedar_editor.specs.declared.judges.Judge.{Judge}
+use Rattle.cedar_editor.specs.declared.judges.SharedSettings.{SharedSettings}
+
+-- the basis of judgment by shared settings: the validator's schema and extension functions, and the mode
+abbrev pub shared_basis : {C : Type 0} → (C → Refusals) → SharedSettings C → Basis
+shared_basis meaning s = basis_in meaning s.validator.value s.mode
 
 -- the verdict on a policy is right by these settings, wherever the policy stands; a judge without a schema gives no verdict, so
 -- nothing is claimed of it
 abbrev pub is_said_by : {C : Type 0} → (C → Refusals) → Judge C → CheckedPolicy → Type 0
 is_said_by meaning (Judge.Reading functions) p = Unit {0}
-is_said_by meaning (Judge.Settings s) p = IsRightlySaid (basis_of meaning s) s.level p
+is_said_by meaning (Judge.Settings s) p = IsRightlySaid (shared_basis meaning s) s.level p
 
 -- the verdict on a placed policy is right by this judge
 abbrev pub IsSaidBy : {C : Type 0} → (C → Refusals) → Judge C → PlacedPolicy → Type 0
@@ -57,9 +63,10 @@ abbrev pub ShowsNoError : PlacedPolicy → Type 0
 ShowsNoError p = has_shown_error p.policy.value ≡ false
 
 -- validation by these settings promises of a policy all that it promises of an accepted policy
-abbrev pub IsPromisedBy : {C : Type 0} → (C → Refusals) → Settings C → PlacedPolicy → Type 0
-IsPromisedBy meaning s p = IsPromised (basis_of meaning s) s.level (template_of p.policy.value.template) true
+abbrev pub IsPromisedBy : {C : Type 0} → (C → Refusals) → SharedSettings C → PlacedPolicy → Type 0
+IsPromisedBy meaning s p = IsPromised (shared_basis meaning s) s.level (template_of p.policy.value.template) true
 
--- policies that these settings judge rightly, and of which no error is shown, have the promise of accepted policies
-abbrev pub KeepThePromise : {C : Type 0} → (C → Refusals) → Settings C → List PlacedPolicy → Type 0
-KeepThePromise meaning s ps = AreRightlySaidBy meaning (Judge.Settings s) ps → All ShowsNoError ps → All (IsPromisedBy meaning s) ps
+-- policies of which no error is shown have the promise of accepted policies; a judge without a schema promises nothing
+abbrev pub KeepThePromise : {C : Type 0} → (C → Refusals) → Judge C → List PlacedPolicy → Type 0
+KeepThePromise meaning (Judge.Reading functions) ps = Unit {0}
+KeepThePromise meaning (Judge.Settings s) ps = All ShowsNoError ps → ∥ All (IsPromisedBy meaning s) ps ∥₁

@@ -3,7 +3,8 @@ ghost use Rattle.std.specs.Prelude.{◌≡◌, ◌+◌, ◌≤◌, ◌++◌, dro
 ghost use Rattle.cedar_editor.specs.Documents.{is_said_by, moved_policy, placed_policy, AllStandIn, AreRightlySaidBy, BeginsBehind, EndsBy};
 
 use crate::checks::{CheckedPolicy, judged, unjudged};
-use crate::documents::{Judge, PlacedPolicy};
+use crate::documents::PlacedPolicy;
+use crate::judges::Judge;
 use crate::lines::moved;
 use crate::readings::{Reading, is_read_alone, read_policy, reading_of};
 use crate::tokens::behind_blanks;
@@ -214,7 +215,7 @@ fn policy_of<C: ArgumentCheck>(
     };
     let policy = match judge {
         Judge::Reading(_) => unjudged(alloc, own, reading)?,
-        Judge::Settings(settings) => judged(alloc, settings, own, reading)?,
+        Judge::Settings(shared) => judged(alloc, &shared.settings(), own, reading)?,
     };
     Ok(Some(Rc::new(alloc, policy)?))
 }

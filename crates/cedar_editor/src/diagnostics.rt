@@ -7,7 +7,7 @@ ghost use Rattle.cedar_editor.specs.Diagnostics.{ends_line, finding_marks, marks
 ghost use Rattle.cedar_editor.specs.Documents.{ShowsNoError};
 
 use crate::checks::place_of;
-use crate::documents::{PlacedPolicy, PolicyDocument};
+use crate::documents::PlacedPolicy;
 use crate::schemas::SchemaText;
 use cedar_findings::codes::Code;
 use cedar_findings::findings::{Finding, Severity};
@@ -27,19 +27,17 @@ pub struct Diagnostic {
     pub other: Option<Loc>,
 }
 
-/// The diagnostics of a document's policies, in their order, and behind them those of ids that come twice. Each fault and each
+/// The diagnostics of the policies of a document, in their order, and behind them those of ids that come twice. Each fault and each
 /// finding is told at its place, and nothing else is told of a policy but that its id comes twice (clause `exact`). If there is
 /// none, no error of a policy is shown (clause `silent`). If memory is refused, the answer is an `AllocError`.
 pub fn policy_diagnostics(
     alloc: Global,
-    document: &PolicyDocument,
+    policies: &[PlacedPolicy],
 ) -> Result<Vec<Diagnostic>, AllocError>
-    ensures exact { IfOk result (λ told.
-        AreDiagnosticsOf document.now.policies.items told.items) }
+    ensures exact { IfOk result (λ told. AreDiagnosticsOf policies.now told.items) }
     ensures silent { IfOk result (λ told. length told.items ≡ 0
-        → All ShowsNoError document.now.policies.items) }
+        → All ShowsNoError policies.now) }
 {
-    let policies = document.policies();
     let mut told = Vec::new(alloc);
     for placed in policies {
         add_policy(alloc, placed, &mut told)?;

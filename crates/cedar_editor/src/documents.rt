@@ -8,39 +8,12 @@ ghost use Rattle.cedar_editor.specs.Lines.{line_starts};
 use crate::changes::{Touched, add_policies, keep_after, keep_before, read_touched};
 use crate::checks::CheckedPolicy;
 use crate::edits::{Edit, around, difference, edited, joined, only_edit, place_of};
+use crate::judges::Judge;
 use crate::lines::{Lines, Position, Range};
 use crate::windows::{Found, window_of};
-use cedar_types::base::{ArgumentCheck, ExtensionSchemas, Loc};
-use cedar_verdicts::settings::Settings;
+use cedar_types::base::{ArgumentCheck, Loc};
 use std::alloc::{AllocError, Global};
 use std::rc::Rc;
-
-/// The judge of policies: reading alone if there is no schema, else these settings.
-#[derive(Drop)]
-pub enum Judge<'a, C> {
-    Reading(&'a ExtensionSchemas<C>),
-    Settings(Settings<'a, C>),
-}
-
-impl<'a, C> Judge<'a, C> {
-    /// The settings of the judge, if it has some.
-    pub fn settings(&self) -> Option<&Settings<'a, C>> {
-        match self {
-            Judge::Reading(_) => None,
-            Judge::Settings(settings) => Some(settings),
-        }
-    }
-}
-
-impl<C: ArgumentCheck> Judge<'_, C> {
-    /// The extension functions that policies may call.
-    pub fn functions(&self) -> &ExtensionSchemas<C> {
-        match self {
-            Judge::Reading(functions) => functions,
-            Judge::Settings(settings) => settings.validator.extensions(),
-        }
-    }
-}
 
 /// A policy, and the byte of its document at which it begins.
 #[derive(Drop)]
@@ -83,26 +56,27 @@ impl PlacedPolicy {
     }
 }
 
-/// A text of policies, with the verdict on each. The lines are those of the text, and the text of each policy stands in it where
-/// the policy begins.
+/// A text of policies with the judge of all its verdicts, so that no verdict comes from another schema (`rightly_said`). The lines
+/// are those of the text, and the text of each policy stands in it where the policy begins.
 #[derive(Drop)]
-pub struct PolicyDocument {
+pub struct PolicyDocument<'e, C: ArgumentCheck> {
+    judge: Judge<'e, C>,
     text: String,
     lines: Lines,
     policies: Vec<PlacedPolicy>,
+    ghost rightly_said: { ∥ AreRightlySaidBy C.refusal judge policies.items ∥₁ },
     ghost lines_of_text: { lines.starts.items ≡ line_starts (string_bytes text) },
     ghost policies_in_text: { AllStandIn (string_bytes text) policies.items },
 }
 
-impl PolicyDocument {
-    /// A document of this text. If memory is refused, the answer is an `AllocError`.
-    pub fn new<C: ArgumentCheck>(
+impl<'e, C: ArgumentCheck> PolicyDocument<'e, C> {
+    /// A document of this text, with this judge of its policies. If memory is refused, the answer is an `AllocError`.
+    pub fn new(
         alloc: Global,
-        judge: &Judge<'_, C>,
+        judge: Judge<'e, C>,
         text: &str,
-    ) -> Result<PolicyDocument, AllocError>
-        ensures right { IfOk result (λ document.
-            AreRightlySaidBy C.refusal judge.now document.policies.items) }
+    ) -> Result<PolicyDocument<'e, C>, AllocError>
+        ensures judge { IfOk result (λ document. document.judge ≡ judge.entry) }
         ensures text { IfOk result (λ document. string_bytes document.text ≡ text.now) }
     {
         let whole = Loc {
@@ -111,12 +85,20 @@ impl PolicyDocument {
         };
         let window = window_of(alloc, text, whole)?;
         let mut policies = Vec::new(alloc);
-        add_policies(alloc, judge, text, window.found, &[], &mut policies)?;
+        add_policies(alloc, &judge, text, window.found, &[], &mut policies)?;
         Ok(PolicyDocument {
+            judge,
             text: String::from_str(alloc, text)?,
             lines: Lines::new(alloc, text)?,
             policies,
         })
+    }
+
+    /// The judge of the document's policies.
+    pub fn judge(&self) -> &Judge<'e, C>
+        ensures { result.now ≡ self.now.judge }
+    {
+        &self.judge
     }
 
     /// The text of the document.
@@ -164,18 +146,24 @@ impl PolicyDocument {
         self.policies.get(self.number_at(byte)?)
     }
 
-    /// Reads and judges each policy again (clause `right`). If memory is refused, the answer is an `AllocError`, and nothing
-    /// has changed (clause `kept`).
-    pub fn judge_all<C: ArgumentCheck>(
-        &mut self,
-        alloc: Global,
-        judge: &Judge<'_, C>,
-    ) -> Result<(), AllocError>
-        ensures right { OnOk result
-            (AreRightlySaidBy C.refusal judge.now self.new.policies.items) }
+    /// Reads and judges each policy again, by another judge, which the document has from now on (clause `judge`). If memory is
+    /// refused, the answer is an `AllocError`, and nothing has changed (clause `kept`).
+    pub fn judge_all(&mut self, alloc: Global, judge: Judge<'e, C>) -> Result<(), AllocError>
+        ensures judge { OnOk result (self.new.judge ≡ judge.entry) }
         ensures text { self.new.text ≡ self.old.text }
-        ensures kept { OnErr result (self.new.policies ≡ self.old.policies) }
+        ensures kept { OnErr result ((self.new.judge ≡ self.old.judge)
+            × (self.new.policies ≡ self.old.policies)) }
     {
+        let found = self.places(alloc)?;
+        let mut policies = Vec::new(alloc);
+        add_policies(alloc, &judge, self.text.as_str(), found, &[], &mut policies)?;
+        self.judge = judge;
+        self.policies = policies;
+        Ok(())
+    }
+
+    /// The places of the policies, each of which is to be read again.
+    fn places(&self, alloc: Global) -> Result<Vec<Found>, AllocError> {
         let mut found = Vec::with_capacity(alloc, self.policies.len())?;
         for placed in &self.policies {
             let place = Loc {
@@ -184,92 +172,94 @@ impl PolicyDocument {
             };
             found.push(Found { place, read: None })?;
         }
-        let mut policies = Vec::new(alloc);
-        add_policies(alloc, judge, self.text.as_str(), found, &[], &mut policies)?;
-        self.policies = policies;
-        Ok(())
+        Ok(found)
     }
 
-    /// Changes the text by edits, one after another (clause `text`). Policies that they do not touch keep their verdicts, which
-    /// must come from this judge (clause `right`). If memory is refused, the answer is an `AllocError`, and nothing has changed
-    /// (clause `kept`).
-    pub fn edit<C: ArgumentCheck>(
-        &mut self,
-        alloc: Global,
-        judge: &Judge<'_, C>,
-        edits: &[Edit<'_>],
-    ) -> Result<(), AllocError>
+    /// Changes the text by edits, one after another (clause `text`). The judge stays (clause `judge`), so policies that the edits
+    /// do not touch keep their verdicts. If memory is refused, the answer is an `AllocError`, and nothing has changed (clause
+    /// `kept`).
+    pub fn edit(&mut self, alloc: Global, edits: &[Edit<'_>]) -> Result<(), AllocError>
         ensures text { OnOk result (AreEdited (string_bytes self.old.text) edits.now
             (string_bytes self.new.text)) }
-        ensures right { OnOk result (AreRightlySaidBy C.refusal judge.now self.old.policies.items
-            → AreRightlySaidBy C.refusal judge.now self.new.policies.items) }
-        ensures kept { OnErr result (self.new ≡ self.old) }
+        ensures judge { self.new.judge ≡ self.old.judge }
+        ensures kept { OnErr result ((self.new.text ≡ self.old.text)
+            × (self.new.policies ≡ self.old.policies)) }
     {
         if let Some((range, text)) = only_edit(edits) {
             let place = place_of(&self.lines, self.text(), range);
-            return self.change(alloc, judge, place, text);
+            return self.change(alloc, place, text);
         }
         let text = edited(alloc, self.text(), edits)?;
-        self.replace(alloc, judge, text.as_str())
+        self.replace(alloc, text.as_str())
     }
 
     /// Replaces the whole text (clause `text`). Only the part between the beginning and the end that both texts share counts as
-    /// changed (clause `right`, as for `change`). If memory is refused, the answer is an `AllocError`, and nothing has changed
+    /// changed. The judge stays (clause `judge`). If memory is refused, the answer is an `AllocError`, and nothing has changed
     /// (clause `kept`).
-    pub fn replace<C: ArgumentCheck>(
-        &mut self,
-        alloc: Global,
-        judge: &Judge<'_, C>,
-        text: &str,
-    ) -> Result<(), AllocError>
+    pub fn replace(&mut self, alloc: Global, text: &str) -> Result<(), AllocError>
         ensures text { OnOk result (string_bytes self.new.text ≡ text.now) }
-        ensures right { OnOk result (AreRightlySaidBy C.refusal judge.now self.old.policies.items
-            → AreRightlySaidBy C.refusal judge.now self.new.policies.items) }
-        ensures kept { OnErr result (self.new ≡ self.old) }
+        ensures judge { self.new.judge ≡ self.old.judge }
+        ensures kept { OnErr result ((self.new.text ≡ self.old.text)
+            × (self.new.policies ≡ self.old.policies)) }
     {
         let (place, inserted) = difference(self.text.as_str(), text);
         let new = String::from_str(alloc, text)?;
-        self.put(alloc, judge, new, place, inserted)
+        self.put(alloc, new, place, inserted)
     }
 
-    /// Replaces a part of the text, and nothing if the place is no part of it (clause `text`). Policies that the change does not
-    /// touch keep their verdicts, which must come from this judge, and the others are read and judged again, unless an old policy
-    /// has their text (clause `right`). If memory is refused, the answer is an `AllocError`, and nothing has changed (clause
-    /// `kept`).
-    pub fn change<C: ArgumentCheck>(
-        &mut self,
-        alloc: Global,
-        judge: &Judge<'_, C>,
-        place: Loc,
-        inserted: &str,
-    ) -> Result<(), AllocError>
+    /// Replaces a part of the text, and nothing if the place is no part of it (clause `text`). The judge stays (clause `judge`):
+    /// policies that the change does not touch keep their verdicts, and the others are read and judged again, unless an old
+    /// policy has their text. If memory is refused, the answer is an `AllocError`, and nothing has changed (clause `kept`).
+    pub fn change(&mut self, alloc: Global, place: Loc, inserted: &str) -> Result<(), AllocError>
         ensures text { OnOk result (IsSpliced (string_bytes self.old.text) place inserted.now
             (string_bytes self.new.text)) }
-        ensures right { OnOk result (AreRightlySaidBy C.refusal judge.now self.old.policies.items
-            → AreRightlySaidBy C.refusal judge.now self.new.policies.items) }
-        ensures kept { OnErr result (self.new ≡ self.old) }
+        ensures judge { self.new.judge ≡ self.old.judge }
+        ensures kept { OnErr result ((self.new.text ≡ self.old.text)
+            × (self.new.policies ≡ self.old.policies)) }
     {
         let Some((front, behind)) = around(self.text.as_str(), place) else {
             return Ok(());
         };
         let new = joined(alloc, front, inserted, behind)?;
-        self.put(alloc, judge, new, place, inserted.len())
+        self.put(alloc, new, place, inserted.len())
     }
 
     /// Puts a changed text in place of the text. The change put `inserted` bytes in place of a part of it.
-    fn put<C: ArgumentCheck>(
+    fn put(
         &mut self,
         alloc: Global,
-        judge: &Judge<'_, C>,
         text: String,
         place: Loc,
         inserted: usize,
     ) -> Result<(), AllocError>
         requires { IsChange (string_bytes self.old.text) place inserted (string_bytes text) }
         ensures text { OnOk result (self.new.text ≡ text) }
-        ensures right { OnOk result (AreRightlySaidBy C.refusal judge.now self.old.policies.items
-            → AreRightlySaidBy C.refusal judge.now self.new.policies.items) }
-        ensures kept { OnErr result (self.new ≡ self.old) }
+        ensures judge { self.new.judge ≡ self.old.judge }
+        ensures kept { OnErr result ((self.new.text ≡ self.old.text)
+            × (self.new.policies ≡ self.old.policies)) }
+    {
+        let (lines, policies) = self.behind(alloc, &text, place, inserted)?;
+        self.text = text;
+        self.lines = lines;
+        self.policies = policies;
+        Ok(())
+    }
+
+    /// The lines and the policies behind a change that leads to this text.
+    fn behind(
+        &self,
+        alloc: Global,
+        text: &String,
+        place: Loc,
+        inserted: usize,
+    ) -> Result<(Lines, Vec<PlacedPolicy>), AllocError>
+        requires { IsChange (string_bytes self.now.text) place inserted (string_bytes text.now) }
+        ensures lines { IfOk result (λ made.
+            made.0.starts.items ≡ line_starts (string_bytes text.now)) }
+        ensures placed { IfOk result (λ made.
+            AllStandIn (string_bytes text.now) made.1.items) }
+        ensures right { IfOk result (λ made.
+            ∥ AreRightlySaidBy C.refusal self.now.judge made.1.items ∥₁) }
     {
         let new = text.as_str();
         let lines = self.lines.changed(alloc, new, place, inserted)?;
@@ -284,22 +274,14 @@ impl PolicyDocument {
         )?;
         let mut policies = Vec::with_capacity(alloc, old.len())?;
         keep_before(old, first, &mut policies)?;
-        add_policies(alloc, judge, new, found, old, &mut policies)?;
+        add_policies(alloc, &self.judge, new, found, old, &mut policies)?;
         let new_end = place.start.saturating_add(inserted);
         keep_after(old, last, place.end, new_end, &mut policies)?;
-        *self = PolicyDocument {
-            text,
-            lines,
-            policies,
-        };
-        Ok(())
+        Ok((lines, policies))
     }
 }
 
-/// The law that policies keep the promise of validation if these settings judge them and no error of them is shown.
-pub fn silent_policies_keep_the_promise<C: ArgumentCheck>(
-    settings: &Settings<'_, C>,
-    policies: &[PlacedPolicy],
-)
-    ensures { KeepThePromise C.refusal settings.now policies.now }
+/// The law that the policies of a document keep the promise of validation if settings judge them and no error of them is shown.
+pub fn silent_policies_keep_the_promise<C: ArgumentCheck>(document: &PolicyDocument<'_, C>)
+    ensures { KeepThePromise C.refusal document.now.judge document.now.policies.items }
 {}

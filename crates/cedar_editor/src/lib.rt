@@ -14,6 +14,7 @@ pub mod examples;
 mod expected;
 pub mod fixes;
 pub mod hovers;
+pub mod judges;
 pub mod lines;
 mod members;
 mod mentions;

@@ -1,7 +1,6 @@
 //! Schemas while they are written: their declarations, their faults, and the validator by the last text without a fault.
-ghost use Rattle.std.specs.Prelude.{◌≡◌, ◌⊎◌, true, is_some, OnErr, OnOk};
+ghost use Rattle.std.specs.Prelude.{◌≡◌, false, true, is_some, OnErr, OnOk};
 
-use crate::edits::{Edit, edited};
 use crate::lines::{Lines, Range};
 use crate::outlines::{Declared, outline};
 use cedar_findings::faults::TextFault;
@@ -11,8 +10,19 @@ use cedar_typechecker::rbac::Validator;
 use cedar_types::base::{ArgumentCheck, ExtensionSchemas, Loc, ValidatorSchema};
 use cedar_verdicts::schemas::{SchemaFault, json_schema_or_faults, schema_or_faults};
 use std::alloc::{AllocError, Global};
+use std::rc::Rc;
 
-/// The text of a schema, with its declarations and its faults. A schema in JSON has no declarations here.
+/// The message for a schema in JSON that is not the only file of the schema.
+const NOT_ALONE: &str = "a schema in JSON has to be the only file of the schema";
+
+/// The text of a file of a schema.
+#[derive(Clone, Copy)]
+pub struct SchemaSource<'a> {
+    pub syntax: Syntax,
+    pub text: &'a str,
+}
+
+/// The text of a file of a schema, with its declarations and its faults. A schema in JSON has no declarations here.
 #[derive(Drop)]
 pub struct SchemaText {
     pub text: String,
@@ -28,119 +38,155 @@ impl SchemaText {
     }
 }
 
-/// A schema while it is written.
+/// A schema while it is written: the texts of its files, which are read as one. Documents share its validator.
 #[derive(Drop)]
 pub struct SchemaDocument<'e, C> {
-    syntax: Syntax,
-    own: SchemaText,
-    validator: Option<Validator<'e, C>>,
+    texts: Vec<SchemaText>,
+    has_fault: bool,
+    validator: Option<Rc<Validator<'e, C>>>,
 }
 
 impl<'e, C: ArgumentCheck> SchemaDocument<'e, C> {
-    /// A schema of this text, in this syntax. If memory is refused, the answer is an `AllocError`.
+    /// A schema of one text, in this syntax. If memory is refused, the answer is an `AllocError`.
     pub fn new(
         alloc: Global,
         extensions: &'e ExtensionSchemas<C>,
         syntax: Syntax,
         text: &str,
     ) -> Result<SchemaDocument<'e, C>, AllocError> {
-        let read = read_schema(alloc, syntax, text)?;
-        let mut own = schema_text(alloc, syntax, text)?;
-        let validator = match read {
-            Ok(schema) => Some(Validator::new(schema, extensions)),
-            Err(faults) => {
-                own.faults = faults;
-                None
-            }
+        SchemaDocument::of_texts(alloc, extensions, &[SchemaSource { syntax, text }])
+    }
+
+    /// A schema of these texts. If memory is refused, the answer is an `AllocError`.
+    pub fn of_texts(
+        alloc: Global,
+        extensions: &'e ExtensionSchemas<C>,
+        sources: &[SchemaSource<'_>],
+    ) -> Result<SchemaDocument<'e, C>, AllocError> {
+        let mut schema = SchemaDocument {
+            texts: Vec::new(alloc),
+            has_fault: false,
+            validator: None,
         };
-        Ok(SchemaDocument {
-            syntax,
-            own,
-            validator,
-        })
+        schema.replace(alloc, extensions, sources)?;
+        Ok(schema)
     }
 
-    /// The text of the schema, with its declarations and its faults.
-    pub fn own(&self) -> &SchemaText {
-        &self.own
+    /// The texts of the schema, with their declarations and their faults.
+    pub fn texts(&self) -> &[SchemaText] {
+        self.texts.as_slice()
     }
 
-    /// The validator by the last text without a fault, if there was one.
-    pub fn validator(&self) -> Option<&Validator<'e, C>> {
+    /// Whether the texts have a fault, so that they are no schema.
+    pub fn has_fault(&self) -> bool {
+        self.has_fault
+    }
+
+    /// The validator by the last texts without a fault, if there were some.
+    pub fn validator(&self) -> Option<&Rc<Validator<'e, C>>> {
         self.validator.as_ref()
     }
 
-    /// Changes the text by edits, one after another. If the new text has a fault, the validator by the last text without one
-    /// stays (clause `last`). If memory is refused, the answer is an `AllocError`, and nothing has changed (clause `kept`).
-    pub fn edit(
-        &mut self,
-        alloc: Global,
-        extensions: &'e ExtensionSchemas<C>,
-        edits: &[Edit<'_>],
-    ) -> Result<(), AllocError>
-        ensures last { OnOk result ((is_some self.new.validator ≡ true)
-            ⊎ (self.new.validator ≡ self.old.validator)) }
-        ensures kept { OnErr result (self.new ≡ self.old) }
-    {
-        let text = edited(alloc, self.own.text.as_str(), edits)?;
-        self.replace(alloc, extensions, text.as_str())
-    }
-
-    /// Replaces the whole text. If the new text has a fault, the validator by the last text without one stays (clause `last`).
-    /// If memory is refused, the answer is an `AllocError`, and nothing has changed (clause `kept`).
+    /// Replaces all texts. If the new texts have a fault, the validator by the last ones without a fault stays (clause `last`),
+    /// else there is a validator (clause `good`). If memory is refused, the answer is an `AllocError`, and nothing has changed
+    /// (clause `kept`).
     pub fn replace(
         &mut self,
         alloc: Global,
         extensions: &'e ExtensionSchemas<C>,
-        text: &str,
+        sources: &[SchemaSource<'_>],
     ) -> Result<(), AllocError>
-        ensures last { OnOk result ((is_some self.new.validator ≡ true)
-            ⊎ (self.new.validator ≡ self.old.validator)) }
+        ensures last { OnOk result (self.new.has_fault ≡ true
+            → self.new.validator ≡ self.old.validator) }
+        ensures good { OnOk result (self.new.has_fault ≡ false
+            → is_some self.new.validator ≡ true) }
         ensures kept { OnErr result (self.new ≡ self.old) }
     {
-        let read = read_schema(alloc, self.syntax, text)?;
-        let mut own = schema_text(alloc, self.syntax, text)?;
-        match read {
-            Ok(schema) => self.validator = Some(Validator::new(schema, extensions)),
-            Err(faults) => own.faults = faults,
+        let mut texts = Vec::with_capacity(alloc, sources.len())?;
+        for source in sources {
+            texts.push(schema_text(alloc, *source)?)?;
         }
-        self.own = own;
+        match read_schema(alloc, sources)? {
+            Ok(schema) => {
+                let validator = Rc::new(alloc, Validator::new(schema, extensions))?;
+                self.validator = Some(validator);
+                self.has_fault = false;
+            }
+            Err(faults) => {
+                add_faults(faults, &mut texts)?;
+                self.has_fault = true;
+            }
+        }
+        self.texts = texts;
         Ok(())
     }
 }
 
 /// A text with its lines and its declarations, and without its faults.
-fn schema_text(alloc: Global, syntax: Syntax, text: &str) -> Result<SchemaText, AllocError> {
-    let declared = match syntax {
-        Syntax::Cedar => outline(alloc, text)?,
+fn schema_text(alloc: Global, source: SchemaSource<'_>) -> Result<SchemaText, AllocError> {
+    let declared = match source.syntax {
+        Syntax::Cedar => outline(alloc, source.text)?,
         Syntax::Json => Vec::new(alloc),
     };
     Ok(SchemaText {
-        text: String::from_str(alloc, text)?,
-        lines: Lines::new(alloc, text)?,
+        text: String::from_str(alloc, source.text)?,
+        lines: Lines::new(alloc, source.text)?,
         declared,
         faults: Vec::new(alloc),
     })
 }
 
-/// The schema of a text, or its faults.
+/// Adds each fault to the text that it is in.
+fn add_faults(faults: Vec<SchemaFault>, texts: &mut Vec<SchemaText>) -> Result<(), AllocError> {
+    for SchemaFault { number, fault } in faults {
+        if let Some(text) = texts.get_mut(number) {
+            text.faults.push(fault)?;
+        }
+    }
+    Ok(())
+}
+
+/// The schema that texts declare together, or its faults. A text of JSON must be the only one.
 fn read_schema(
     alloc: Global,
-    syntax: Syntax,
-    text: &str,
-) -> Result<Result<ValidatorSchema, Vec<TextFault>>, AllocError> {
-    if syntax == Syntax::Json {
-        return json_schema_or_faults(alloc, text);
-    }
+    sources: &[SchemaSource<'_>],
+) -> Result<Result<ValidatorSchema, Vec<SchemaFault>>, AllocError> {
     let mut texts = SchemaTexts::new(alloc);
-    texts.add(text)?;
-    let faults = match schema_or_faults(alloc, &texts)? {
-        Ok(schema) => return Ok(Ok(schema)),
-        Err(faults) => faults,
-    };
-    let mut own = Vec::new(alloc);
-    for SchemaFault { fault, .. } in faults {
-        own.push(fault)?;
+    for (number, source) in sources.iter().enumerate() {
+        if source.syntax == Syntax::Cedar {
+            texts.add(source.text)?;
+        } else if sources.len() == 1 {
+            return json_schema(alloc, source.text);
+        } else {
+            return Ok(Err(not_alone(alloc, number)?));
+        }
     }
-    Ok(Err(own))
+    schema_or_faults(alloc, &texts)
+}
+
+/// The schema of a text of JSON, or its faults.
+fn json_schema(
+    alloc: Global,
+    text: &str,
+) -> Result<Result<ValidatorSchema, Vec<SchemaFault>>, AllocError> {
+    let own = match json_schema_or_faults(alloc, text)? {
+        Ok(schema) => return Ok(Ok(schema)),
+        Err(own) => own,
+    };
+    let mut faults = Vec::new(alloc);
+    for fault in own {
+        faults.push(SchemaFault { number: 0, fault })?;
+    }
+    Ok(Err(faults))
+}
+
+/// The fault of a text of JSON that is not the only one.
+fn not_alone(alloc: Global, number: usize) -> Result<Vec<SchemaFault>, AllocError> {
+    let fault = TextFault {
+        place: Loc { start: 0, end: 0 },
+        text: String::from_str(alloc, NOT_ALONE)?,
+    };
+    let mut faults = Vec::new(alloc);
+    faults.push(SchemaFault { number, fault })?;
+    Ok(faults)
 }

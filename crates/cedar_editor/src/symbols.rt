@@ -1,5 +1,5 @@
 //! Symbols: the outline of a document.
-use crate::documents::PolicyDocument;
+use crate::documents::PlacedPolicy;
 use crate::outlines::{Declared, DeclaredKind};
 use cedar_types::base::Loc;
 use std::alloc::{AllocError, Global};
@@ -21,10 +21,10 @@ pub struct Symbol {
     pub own: Loc,
 }
 
-/// The symbols of a document's policies, by their ids. If memory is refused, the answer is an `AllocError`.
-pub fn policy_symbols(alloc: Global, document: &PolicyDocument) -> Result<Vec<Symbol>, AllocError> {
+/// The symbols of the policies of a document, by their ids. If memory is refused, the answer is an `AllocError`.
+pub fn policy_symbols(alloc: Global, policies: &[PlacedPolicy]) -> Result<Vec<Symbol>, AllocError> {
     let mut symbols = Vec::new(alloc);
-    for (number, placed) in document.policies().iter().enumerate() {
+    for (number, placed) in policies.iter().enumerate() {
         let start = placed.start;
         let id = placed.policy.id(alloc, number)?;
         symbols.push(Symbol {

@@ -114,6 +114,14 @@ pub fn text_at<'a>(value: Option<&'a Value>, key: &str) -> Option<&'a str> {
     value?.get(key)?.as_str()
 }
 
+/// Whether the value at a key is `true`.
+pub fn is_true_at(value: Option<&Value>, key: &str) -> bool {
+    match value.and_then(|it| it.get(key)) {
+        Some(it) => it.as_bool() == Some(true),
+        None => false,
+    }
+}
+
 /// The position that a value says, if it has this form.
 fn position_of(value: Option<&Value>) -> Option<Position> {
     let value = value?;

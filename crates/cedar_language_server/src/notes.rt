@@ -1,51 +1,143 @@
-// Notifications of an editor: documents that are opened, changed, saved and closed.
-use crate::messages::{Call, range_of, text_at};
-use crate::published::{published, published_nothing, published_schema};
+// Notifications of an editor: documents that are opened, changed, saved and closed, files that change, and settings.
+use crate::messages::{Call, is_true_at, range_of, text_at};
+use crate::published::{
+    REGISTRATION, published, published_nothing, published_schema, shown_message,
+};
 use crate::schema_files::schema_syntax;
 use crate::uris::path_of;
-use crate::workspaces::{Source, Workspace};
+use crate::workspaces::Workspace;
 use cedar_editor::edits::Edit;
-use cedar_types::base::ValidationMode;
 use serde_json::Value;
 use std::alloc::{AllocError, Global};
 use std::rt::Files;
 
+/// The key of the server's settings among those of the editor.
+const SECTION: &str = "cedar";
+
 impl Workspace<'_> {
-    /// Takes the options that the editor gives at the beginning: the schema of all policies, the mode and the level.
-    pub fn take_options(&mut self, call: Call<'_>) -> Result<(), AllocError> {
-        let options = call.member("initializationOptions");
-        if let Some(name) = text_at(options, "schema") {
-            let path = match path_of(self.alloc, name)? {
-                Some(path) => path,
-                None => String::from_str(self.alloc, name)?,
-            };
-            self.options.schema = Some(path);
+    /// Takes what the editor says at the beginning: its folder, whether it watches files, and its options.
+    pub fn begin(&mut self, call: Call<'_>) -> Result<(), AllocError> {
+        let root = match text_at(call.about, "rootUri") {
+            Some(uri) => path_of(self.alloc, uri)?,
+            None => None,
+        };
+        let watched = call
+            .member("capabilities")
+            .and_then(|it| it.get("workspace"))
+            .and_then(|it| it.get("didChangeWatchedFiles"));
+        self.watches = is_true_at(watched, "dynamicRegistration");
+        self.root = root;
+        if let Some(options) = call.member("initializationOptions") {
+            self.take_options(options)?;
+            self.first_options = self.options.copy(self.alloc)?;
         }
-        if text_at(options, "mode") == Some("permissive") {
-            self.options.mode = ValidationMode::Permissive;
-        }
-        self.options.level = level_in(options);
         Ok(())
     }
 
-    /// Takes a notification, and answers the notifications that it leads to.
+    /// Takes a notification, and answers the messages that it leads to.
     pub fn note<R: Files + AllocGlobal + Clone + Drop>(
         &mut self,
         rt: &R,
         call: Call<'_>,
     ) -> Result<Vec<String>, AllocError> {
+        let mut told = Vec::new(self.alloc);
+        match call.method {
+            "initialized" => self.note_begun(rt, &mut told)?,
+            "workspace/didChangeWatchedFiles" => self.refresh(rt)?,
+            "workspace/didChangeConfiguration" => self.note_options(rt, call)?,
+            _ => self.note_document(rt, call, &mut told)?,
+        }
+        self.tell(&mut told)?;
+        Ok(told)
+    }
+
+    /// Asks an editor that watches files to watch schemas, and says which schema of the options cannot be read.
+    fn note_begun<R: Files + AllocGlobal + Clone + Drop>(
+        &mut self,
+        rt: &R,
+        told: &mut Vec<String>,
+    ) -> Result<(), AllocError> {
+        if self.watches {
+            told.push(String::from_str(self.alloc, REGISTRATION)?)?;
+        }
+        self.say_unread(rt)
+    }
+
+    /// Takes the settings of the editor. A setting that it does not say is as at the beginning.
+    fn note_options<R: Files + AllocGlobal + Clone + Drop>(
+        &mut self,
+        rt: &R,
+        call: Call<'_>,
+    ) -> Result<(), AllocError> {
+        let Some(settings) = call.member("settings") else {
+            return Ok(());
+        };
+        self.options = self.first_options.copy(self.alloc)?;
+        self.take_options(settings.get(SECTION).unwrap_or(settings))?;
+        self.say_unread(rt)?;
+        self.refresh(rt)
+    }
+
+    /// Takes options, and says which of them cannot be read.
+    fn take_options(&mut self, options: &Value) -> Result<(), AllocError> {
+        let messages = self.options.take(self.alloc, self.root.as_ref(), options)?;
+        for message in messages {
+            self.waiting.push(shown_message(self.alloc, message)?)?;
+        }
+        Ok(())
+    }
+
+    /// Says which files of the schema that the options name cannot be read.
+    fn say_unread<R: Files + AllocGlobal + Clone + Drop>(
+        &mut self,
+        rt: &R,
+    ) -> Result<(), AllocError> {
+        let Some(home) = self.named_home(rt)? else {
+            return Ok(());
+        };
+        for path in home.paths {
+            if self.text_at(rt, path.as_str())?.is_none() {
+                let message = format!(in self.alloc;
+                    "the schema of the settings cannot be read: {path}"
+                )?;
+                self.waiting
+                    .push(shown_message(self.alloc, message.as_str())?)?;
+            }
+        }
+        Ok(())
+    }
+
+    /// Takes a notification about a document.
+    fn note_document<R: Files + AllocGlobal + Clone + Drop>(
+        &mut self,
+        rt: &R,
+        call: Call<'_>,
+        told: &mut Vec<String>,
+    ) -> Result<(), AllocError> {
         let Some(uri) = call.uri() else {
-            return Ok(Vec::new(self.alloc));
+            return Ok(());
         };
         let is_schema = schema_syntax(uri).is_some();
         match call.method {
             "textDocument/didOpen" => self.note_opened(rt, uri, call),
-            "textDocument/didChange" if is_schema => self.note_schema_changed(rt, uri, call),
-            "textDocument/didChange" => self.note_changed(uri, call),
-            "textDocument/didSave" if !is_schema => self.note_saved(rt, uri),
-            "textDocument/didClose" if is_schema => self.note_schema_closed(rt, uri),
-            "textDocument/didClose" => self.note_closed(uri),
-            _ => Ok(Vec::new(self.alloc)),
+            "textDocument/didChange" => {
+                let edits = edits_in(self.alloc, call)?;
+                if is_schema {
+                    self.edit_schema(rt, uri, edits.as_slice(), call.version())
+                } else {
+                    self.edit(uri, edits.as_slice(), call.version())
+                }
+            }
+            "textDocument/didSave" => self.refresh(rt),
+            "textDocument/didClose" => {
+                told.push(published_nothing(self.alloc, uri)?)?;
+                if is_schema {
+                    self.close_schema(rt, uri)
+                } else {
+                    self.close(rt, uri)
+                }
+            }
+            _ => Ok(()),
         }
     }
 
@@ -54,115 +146,45 @@ impl Workspace<'_> {
         rt: &R,
         uri: &str,
         call: Call<'_>,
-    ) -> Result<Vec<String>, AllocError> {
-        let Some(text) = text_at(call.document(), "text") else {
-            return Ok(Vec::new(self.alloc));
-        };
-        match schema_syntax(uri) {
-            Some(syntax) => {
-                self.open_schema(uri, syntax, text, Source::Editor(call.version()))?;
-                self.publish_schema(rt, uri)
-            }
-            None => {
-                self.open(rt, uri, text, call.version())?;
-                self.publish(uri)
-            }
-        }
-    }
-
-    fn note_changed(&mut self, uri: &str, call: Call<'_>) -> Result<Vec<String>, AllocError> {
-        let edits = edits_in(self.alloc, call)?;
-        self.edit(uri, edits.as_slice(), call.version())?;
-        self.publish(uri)
-    }
-
-    fn note_schema_changed<R: Files + AllocGlobal + Clone + Drop>(
-        &mut self,
-        rt: &R,
-        uri: &str,
-        call: Call<'_>,
-    ) -> Result<Vec<String>, AllocError> {
-        let edits = edits_in(self.alloc, call)?;
-        self.edit_schema(uri, edits.as_slice(), call.version())?;
-        self.publish_schema(rt, uri)
-    }
-
-    fn note_saved<R: Files + AllocGlobal + Clone + Drop>(
-        &mut self,
-        rt: &R,
-        uri: &str,
-    ) -> Result<Vec<String>, AllocError> {
-        self.judge_again(rt, uri)?;
-        self.publish(uri)
-    }
-
-    fn note_closed(&mut self, uri: &str) -> Result<Vec<String>, AllocError> {
-        let mut notes = Vec::new(self.alloc);
-        notes.push(published_nothing(self.alloc, uri)?)?;
-        self.close(uri);
-        Ok(notes)
-    }
-
-    /// Takes note of a schema that is closed: from now on it counts as its file has it.
-    fn note_schema_closed<R: Files + AllocGlobal + Clone + Drop>(
-        &mut self,
-        rt: &R,
-        uri: &str,
-    ) -> Result<Vec<String>, AllocError> {
-        let mut notes = Vec::new(self.alloc);
-        notes.push(published_nothing(self.alloc, uri)?)?;
-        self.close_schema(rt, uri)?;
-        self.publish_checked_by(rt, uri, &mut notes)?;
-        Ok(notes)
-    }
-
-    /// The notification of the diagnostics of a document of policies, if it is open.
-    fn publish(&self, uri: &str) -> Result<Vec<String>, AllocError> {
-        let mut notes = Vec::new(self.alloc);
-        if let Some(document) = self.document(uri) {
-            let schema = self.schema_of(document);
-            notes.push(published(self.alloc, uri, document, schema)?)?;
-        }
-        Ok(notes)
-    }
-
-    /// The notifications of the diagnostics of a schema that was read, and of the documents that are checked by it, whose
-    /// policies are judged again.
-    fn publish_schema<R: Files + AllocGlobal + Clone + Drop>(
-        &mut self,
-        rt: &R,
-        uri: &str,
-    ) -> Result<Vec<String>, AllocError> {
-        let mut notes = Vec::new(self.alloc);
-        let Some(schema) = self.schema_named(uri)? else {
-            return Ok(notes);
-        };
-        notes.push(published_schema(self.alloc, schema)?)?;
-        self.publish_checked_by(rt, uri, &mut notes)?;
-        Ok(notes)
-    }
-
-    /// Adds the notifications of the diagnostics of the documents that are checked by a schema, whose policies are judged
-    /// again.
-    fn publish_checked_by<R: Files + AllocGlobal + Clone + Drop>(
-        &mut self,
-        rt: &R,
-        uri: &str,
-        notes: &mut Vec<String>,
     ) -> Result<(), AllocError> {
-        for name in self.checked_by(uri)? {
-            self.judge_again(rt, name.as_str())?;
-            for note in self.publish(name.as_str())? {
-                notes.push(note)?;
+        let Some(text) = text_at(call.document(), "text") else {
+            return Ok(());
+        };
+        if schema_syntax(uri).is_some() {
+            self.open_schema(rt, uri, text, call.version())
+        } else {
+            self.open(rt, uri, text, call.version())
+        }
+    }
+
+    /// Adds the messages that wait, and the diagnostics of each document that the editor was not told as they are now.
+    fn tell(&mut self, told: &mut Vec<String>) -> Result<(), AllocError> {
+        for message in &self.waiting {
+            told.push(message.clone()?)?;
+        }
+        for (path, open) in self.open_schemas.iter() {
+            if open.is_shown {
+                continue;
             }
+            if let Some(text) = self.text_in_schema(path.as_str(), open) {
+                told.push(published_schema(self.alloc, open, text)?)?;
+            }
+        }
+        for (uri, document) in self.documents.iter() {
+            if !document.is_shown {
+                let schema = self.schema_of(document);
+                told.push(published(self.alloc, uri.as_str(), document, schema)?)?;
+            }
+        }
+        self.waiting.clear();
+        for open in self.open_schemas.values_mut() {
+            open.is_shown = true;
+        }
+        for document in self.documents.values_mut() {
+            document.is_shown = true;
         }
         Ok(())
     }
-}
-
-/// The level that the options ask for, if they ask for one.
-fn level_in(options: Option<&Value>) -> Option<u32> {
-    u32::try_from(options?.get("level")?.as_u64()?).ok()
 }
 
 /// The edits that a `didChange` tells. One without a text is passed over; one without a range that can be read replaces the

@@ -1,8 +1,20 @@
-// Notifications of the diagnostics of a document, which the editor gets without asking.
-use crate::workspaces::{Document, SchemaFile};
+// Messages that the editor gets without asking: the diagnostics of a document, a message for the user, and the request to watch
+// schemas.
+use crate::workspaces::{Document, OpenSchema, Schema};
 use crate::written::{Origin, Written};
 use cedar_editor::diagnostics::{Diagnostic, policy_diagnostics, schema_diagnostics};
+use cedar_editor::schemas::SchemaText;
+use cedar_findings::json::JsonWriter;
 use std::alloc::{AllocError, Global};
+
+/// The request that the editor tells the server of each schema file that changes on disk.
+pub const REGISTRATION: &str = "{\"jsonrpc\":\"2.0\",\"id\":\"watched-schemas\",\
+\"method\":\"client/registerCapability\",\"params\":{\"registrations\":[{\
+\"id\":\"watched-schemas\",\"method\":\"workspace/didChangeWatchedFiles\",\"registerOptions\":{\"watchers\":[\
+{\"globPattern\":\"**/*.cedarschema\"},{\"globPattern\":\"**/*.cedarschema.json\"}]}}]}}";
+
+/// The protocol's number for a message about an error.
+const ERROR: u64 = 1;
 
 /// The note on policies for which no schema is found.
 const NO_SCHEMA: &str = "no schema is found: policies are read, and not checked";
@@ -11,12 +23,15 @@ const FAULTY_SCHEMA: &str = "the schema has a fault: policies are checked by the
 
 const NO_GOOD_SCHEMA: &str = "the schema has a fault: policies are read, and not checked";
 
+const UNREAD_SCHEMA: &str =
+    "a file of the schema cannot be read: policies are read, and not checked";
+
 /// The notification of the diagnostics of a document of policies, with a note if the schema is missing or has a fault.
 pub fn published(
     alloc: Global,
     uri: &str,
-    document: &Document,
-    schema: Option<&SchemaFile<'_>>,
+    document: &Document<'_>,
+    schema: Option<&Schema<'_>>,
 ) -> Result<String, AllocError> {
     let policies = &document.policies;
     let origin = Origin {
@@ -24,7 +39,7 @@ pub fn published(
         text: policies.text(),
         lines: policies.lines(),
     };
-    let told = policy_diagnostics(alloc, policies)?;
+    let told = policy_diagnostics(alloc, policies.policies())?;
     notification(
         alloc,
         &origin,
@@ -35,27 +50,42 @@ pub fn published(
 }
 
 /// The note on the schema by which policies are checked; empty if it has no fault.
-fn note_on(schema: Option<&SchemaFile<'_>>) -> &'static str {
+fn note_on(schema: Option<&Schema<'_>>) -> &'static str {
     let Some(schema) = schema else {
         return NO_SCHEMA;
     };
+    if schema.is_unread {
+        return UNREAD_SCHEMA;
+    }
     match schema.document.validator() {
         None => NO_GOOD_SCHEMA,
-        Some(_) if schema.document.own().faults.is_empty() => "",
-        Some(_) => FAULTY_SCHEMA,
+        Some(_) if schema.document.has_fault() => FAULTY_SCHEMA,
+        Some(_) => "",
     }
 }
 
-/// The notification of the diagnostics of a schema.
-pub fn published_schema(alloc: Global, schema: &SchemaFile<'_>) -> Result<String, AllocError> {
-    let own = schema.document.own();
+/// The notification of the diagnostics of an open schema file.
+pub fn published_schema(
+    alloc: Global,
+    open: &OpenSchema,
+    text: &SchemaText,
+) -> Result<String, AllocError> {
     let origin = Origin {
-        uri: schema.uri.as_str(),
-        text: own.text.as_str(),
-        lines: &own.lines,
+        uri: open.uri.as_str(),
+        text: text.text.as_str(),
+        lines: &text.lines,
     };
-    let told = schema_diagnostics(alloc, own)?;
-    notification(alloc, &origin, schema.source.version(), "", told.as_slice())
+    let told = schema_diagnostics(alloc, text)?;
+    notification(alloc, &origin, open.version, "", told.as_slice())
+}
+
+/// The notification of a message for the user.
+pub fn shown_message(alloc: Global, message: &str) -> Result<String, AllocError> {
+    let mut text = String::new(alloc);
+    JsonWriter::new().text(&mut text, message)?;
+    format!(in alloc;
+        "{{\"jsonrpc\":\"2.0\",\"method\":\"window/showMessage\",\"params\":{{\"type\":{ERROR},\"message\":{text}}}}}"
+    )
 }
 
 /// The notification that a document which is closed has no diagnostics.

@@ -1,7 +1,7 @@
 // Questions of an editor about a document.
 use crate::messages::Call;
 use crate::replies::Refusal;
-use crate::workspaces::{Document, SchemaFile, Workspace};
+use crate::workspaces::{Document, Workspace};
 use crate::written::{Origin, Written};
 use cedar_editor::checks::place_of;
 use cedar_editor::completions::completion_at;
@@ -10,6 +10,7 @@ use cedar_editor::diagnostics::of_finding;
 use cedar_editor::documents::PlacedPolicy;
 use cedar_editor::fixes::{Fix, fix_of};
 use cedar_editor::hovers::hover_at;
+use cedar_editor::schemas::SchemaText;
 use cedar_editor::symbols::{policy_symbols, schema_symbols};
 use cedar_findings::findings::{Finding, Severity};
 use cedar_types::base::Loc;
@@ -46,7 +47,7 @@ impl Question {
 #[derive(Clone, Copy)]
 struct Asked<'a> {
     uri: &'a str,
-    document: &'a Document,
+    document: &'a Document<'a>,
     placed: &'a PlacedPolicy,
     /// The byte that is asked about, in the policy's own text.
     byte: usize,
@@ -104,15 +105,16 @@ impl Workspace<'_> {
 
     /// The outcome of a question about a schema. Symbols are the only question that has an answer there.
     fn answer_of_schema(&self, question: Question, uri: &str) -> Outcome {
-        let Some(schema) = self.schema_named(uri)? else {
+        let Some((open, text)) = self.schema_named(uri)? else {
             return Ok(Err(Refusal::BadParameters));
         };
         if question != Question::Symbols {
             return self.nothing(question);
         }
-        let symbols = schema_symbols(self.alloc, schema.document.own().declared.as_slice())?;
+        let symbols = schema_symbols(self.alloc, text.declared.as_slice())?;
+        let origin = origin_of(open.uri.as_str(), text);
         let mut written = Written::new(self.alloc);
-        written.symbols(&origin_of(schema), symbols.as_slice())?;
+        written.symbols(&origin, symbols.as_slice())?;
         Ok(Ok(written.out))
     }
 
@@ -126,8 +128,8 @@ impl Workspace<'_> {
         Ok(Ok(String::from_str(self.alloc, nothing)?))
     }
 
-    fn symbols(&self, uri: &str, document: &Document) -> Outcome {
-        let symbols = policy_symbols(self.alloc, &document.policies)?;
+    fn symbols(&self, uri: &str, document: &Document<'_>) -> Outcome {
+        let symbols = policy_symbols(self.alloc, document.policies.policies())?;
         let origin = Origin {
             uri,
             text: document.policies.text(),
@@ -139,12 +141,12 @@ impl Workspace<'_> {
     }
 
     fn hover(&self, asked: Asked<'_>) -> Outcome {
-        let Some(schema) = self.schema_of(asked.document) else {
+        let Some(own) = self.declaring_text(asked)? else {
             return self.nothing(Question::Hover);
         };
-        let judge = self.judge_of(asked.document);
-        let (own, policy) = (schema.document.own(), asked.placed.policy());
-        let found = hover_at(self.alloc, judge.settings(), own, policy, asked.byte)?;
+        let settings = asked.document.policies.judge().settings();
+        let policy = asked.placed.policy();
+        let found = hover_at(self.alloc, settings.as_ref(), own, policy, asked.byte)?;
         let Some(hover) = found else {
             return self.nothing(Question::Hover);
         };
@@ -154,12 +156,28 @@ impl Workspace<'_> {
         Ok(Ok(written.out))
     }
 
+    /// The text of the schema that declares the part at a byte of a policy, else the first one.
+    fn declaring_text(&self, asked: Asked<'_>) -> Result<Option<&SchemaText>, AllocError> {
+        let Some(schema) = self.schema_at(asked.document.schema.as_ref()) else {
+            return Ok(None);
+        };
+        let settings = asked.document.policies.judge().settings();
+        let texts = schema.document.texts();
+        for own in texts {
+            let policy = asked.placed.policy();
+            let places = definitions_at(self.alloc, settings.as_ref(), own, policy, asked.byte)?;
+            if !places.is_empty() {
+                return Ok(Some(own));
+            }
+        }
+        Ok(texts.first())
+    }
+
     fn completion(&self, asked: Asked<'_>) -> Outcome {
-        let judge = self.judge_of(asked.document);
-        let Some(settings) = judge.settings() else {
+        let Some(settings) = asked.document.policies.judge().settings() else {
             return self.nothing(Question::Completion);
         };
-        let found = completion_at(self.alloc, settings, asked.placed.policy(), asked.byte)?;
+        let found = completion_at(self.alloc, &settings, asked.placed.policy(), asked.byte)?;
         let place = asked.placed.place(found.place);
         let mut written = Written::new(self.alloc);
         written.completion(&asked.origin(), place, &found)?;
@@ -167,26 +185,39 @@ impl Workspace<'_> {
     }
 
     fn definition(&self, asked: Asked<'_>) -> Outcome {
-        let Some(schema) = self.schema_of(asked.document) else {
+        let Some(schema) = self.schema_at(asked.document.schema.as_ref()) else {
             return self.nothing(Question::Definition);
         };
-        let judge = self.judge_of(asked.document);
-        let (own, policy) = (schema.document.own(), asked.placed.policy());
-        let places = definitions_at(self.alloc, judge.settings(), own, policy, asked.byte)?;
-        let origin = origin_of(schema);
         let mut written = Written::new(self.alloc);
         written.json.begin_list(&mut written.out)?;
-        for place in places {
-            written.location(&origin, place)?;
+        for (path, own) in schema.paths.iter().zip(schema.document.texts()) {
+            self.add_definitions(&mut written, asked, path.as_str(), own)?;
         }
         written.json.end_list(&mut written.out)?;
         Ok(Ok(written.out))
     }
 
+    /// Adds the places of the definitions that stand in one file of a schema.
+    fn add_definitions(
+        &self,
+        written: &mut Written,
+        asked: Asked<'_>,
+        path: &str,
+        own: &SchemaText,
+    ) -> Result<(), AllocError> {
+        let settings = asked.document.policies.judge().settings();
+        let policy = asked.placed.policy();
+        let places = definitions_at(self.alloc, settings.as_ref(), own, policy, asked.byte)?;
+        let uri = self.uri_of_schema(path)?;
+        for place in places {
+            written.location(&origin_of(uri.as_str(), own), place)?;
+        }
+        Ok(())
+    }
+
     /// The fixes of the errors of one policy that touch a range, from one byte of its document to another.
     fn fixes(&self, asked: Asked<'_>, start: usize, end: usize) -> Outcome {
-        let judge = self.judge_of(asked.document);
-        let Some(settings) = judge.settings() else {
+        let Some(settings) = asked.document.policies.judge().settings() else {
             return self.nothing(Question::Fixes);
         };
         let policy = asked.placed.policy();
@@ -198,7 +229,7 @@ impl Workspace<'_> {
                 if place.end < start || end < place.start {
                     continue;
                 }
-                if let Some(fix) = fix_of(self.alloc, settings, policy, finding)? {
+                if let Some(fix) = fix_of(self.alloc, &settings, policy, finding)? {
                     self.add_fix(&mut written, asked, finding, &fix)?;
                 }
             }
@@ -224,10 +255,10 @@ impl Workspace<'_> {
     }
 }
 
-fn origin_of<'a>(schema: &'a SchemaFile<'_>) -> Origin<'a> {
-    let own = schema.document.own();
+/// The origin of a text of a schema.
+fn origin_of<'a>(uri: &'a str, own: &'a SchemaText) -> Origin<'a> {
     Origin {
-        uri: schema.uri.as_str(),
+        uri,
         text: own.text.as_str(),
         lines: &own.lines,
     }

@@ -1,6 +1,9 @@
-// Schema files: the file by which policies are checked, and its text.
+// Schema files: which files are schemas, and their texts.
+use cedar_findings::sources::{Content, content_of};
 use cedar_findings::syntaxes::Syntax;
 use std::alloc::AllocError;
+use std::collections::BTreeSet;
+use std::io::Read;
 use std::rt::Files;
 use std::{fs, io};
 
@@ -9,9 +12,21 @@ const ENDING: &str = ".cedarschema";
 
 const JSON_ENDING: &str = ".cedarschema.json";
 
-/// The syntax of the schema in a file of this name; `None` if the name is not one of a schema.
-pub fn schema_syntax(name: &str) -> Option<Syntax> {
-    if name.ends_with(ENDING) {
+/// The beginning of the name of a lock, which Emacs puts beside a file with changes.
+const LOCK: &str = ".#";
+
+/// The most bytes that a schema file may have.
+const MOST: u64 = 1 << 26;
+
+/// The syntax of the schema in a file of this name or path; `None` if the name is not one of a schema.
+pub fn schema_syntax(path: &str) -> Option<Syntax> {
+    let name = match path.rsplit_once('/') {
+        Some((_, name)) => name,
+        None => path,
+    };
+    if name.starts_with(LOCK) {
+        None
+    } else if name.ends_with(ENDING) {
         Some(Syntax::Cedar)
     } else if name.ends_with(JSON_ENDING) {
         Some(Syntax::Json)
@@ -20,61 +35,75 @@ pub fn schema_syntax(name: &str) -> Option<Syntax> {
     }
 }
 
-/// The path of the schema that is nearest to a file: in its folder, or in the next folder above that has one. If a folder has
-/// several, the first by name counts.
-pub fn nearest_schema<R: Files + AllocGlobal + Clone + Drop>(
-    rt: &R,
-    path: &str,
-) -> Result<Option<String>, AllocError> {
-    let alloc = rt.alloc();
-    let mut folder = path;
-    for _ in 0..path.len() {
-        let Some((above, _)) = folder.rsplit_once('/') else {
-            break;
-        };
-        folder = above;
-        if let Some(name) = schema_in(rt, folder)? {
-            return Ok(Some(format!(in alloc; "{folder}/{name}")?));
-        }
+/// Whether a path is that of a folder.
+pub fn is_folder<R: Files>(rt: &R, path: &str) -> bool {
+    match fs::metadata(rt, path) {
+        Ok(it) => it.is_dir(),
+        Err(_) => false,
     }
-    Ok(None)
 }
 
-/// The name of the first schema in a folder; none also if the folder cannot be read.
-fn schema_in<R: Files + AllocGlobal + Clone + Drop>(
+/// Whether a path is that of a file of at most 64 MiB, and no device, pipe or folder, each of which may never end.
+fn is_small_file<R: Files>(rt: &R, path: &str) -> bool {
+    match fs::metadata(rt, path) {
+        Ok(it) => it.is_file() && it.len() <= MOST,
+        Err(_) => false,
+    }
+}
+
+/// Adds the names of the schema files in a folder; none if the folder cannot be read.
+pub fn add_schemas_in<R: Files + AllocGlobal + Clone + Drop>(
     rt: &R,
     folder: &str,
-) -> Result<Option<String>, AllocError> {
+    names: &mut BTreeSet<String>,
+) -> Result<(), AllocError> {
+    let alloc = rt.alloc();
     let asked = if folder.is_empty() { "/" } else { folder };
     let entries = match fs::read_dir(rt, asked) {
         Ok(entries) => entries,
-        Err(_) => return Ok(None),
+        Err(_) => return Ok(()),
     };
-    let mut first: Option<String> = None;
     for entry in entries {
         let Ok(entry) = entry else {
             break;
         };
         let name = entry.file_name();
-        let is_first = match &first {
-            Some(other) => name < other.as_str(),
-            None => true,
-        };
-        if is_first && schema_syntax(name).is_some() {
-            first = Some(String::from_str(rt.alloc(), name)?);
+        if schema_syntax(name).is_none() {
+            continue;
+        }
+        let path = format!(in alloc; "{folder}/{name}")?;
+        if is_small_file(rt, path.as_str()) {
+            names.insert(String::from_str(alloc, name)?)?;
         }
     }
-    Ok(first)
+    Ok(())
 }
 
-/// The text of a file; `None` if there is no file that can be read. If memory is refused, the answer is an `AllocError`.
+/// The text of a schema file; `None` if there is no such file, or if it has no text in UTF-8. If memory is refused, the answer is
+/// an `AllocError`.
 pub fn text_of_file<R: Files + AllocGlobal>(
     rt: &R,
     path: &str,
 ) -> Result<Option<String>, AllocError> {
-    match fs::read_to_string(rt, path) {
-        Ok(text) => Ok(Some(text)),
-        Err(error) if error.kind() == io::ErrorKind::OutOfMemory => Err(AllocError),
-        Err(_) => Ok(None),
+    if !is_small_file(rt, path) {
+        return Ok(None);
     }
+    let bytes = match bytes_of_file(rt, path) {
+        Ok(bytes) => bytes,
+        Err(error) if error.kind() == io::ErrorKind::OutOfMemory => return Err(AllocError),
+        Err(_) => return Ok(None),
+    };
+    match content_of(rt.alloc(), bytes.as_slice())? {
+        Content::Text(text) => Ok(Some(text)),
+        Content::Broken(_, _) => Ok(None),
+    }
+}
+
+/// The bytes of a file, and of a file that grows at most one more than a schema may have.
+fn bytes_of_file<R: Files + AllocGlobal>(rt: &R, path: &str) -> io::Result<Vec<u8>> {
+    let mut bytes = Vec::new(rt.alloc());
+    fs::open(rt, path)?
+        .take(MOST.saturating_add(1))
+        .read_to_end(&mut bytes)?;
+    Ok(bytes)
 }

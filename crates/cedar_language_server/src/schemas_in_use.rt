@@ -1,128 +1,267 @@
-// The schemas by which policies are checked, from files and from the editor.
-use crate::schema_files::{nearest_schema, schema_syntax, text_of_file};
-use crate::uris::uri_of;
-use crate::workspaces::{SchemaFile, Source, Workspace, key_of};
-use cedar_editor::edits::Edit;
-use cedar_editor::schemas::SchemaDocument;
+// The schemas by which policies are checked: each is read again where it may have changed, and its documents are judged again.
+use crate::homes::Home;
+use crate::schema_files::{schema_syntax, text_of_file};
+use crate::workspaces::{Check, Schema, Workspace};
+use cedar_editor::judges::{Judge, SharedSettings};
+use cedar_editor::schemas::{SchemaDocument, SchemaSource};
 use cedar_findings::syntaxes::Syntax;
-use std::alloc::AllocError;
+use std::alloc::{AllocError, Global};
+use std::collections::{BTreeMap, BTreeSet};
+use std::rc::Rc;
 use std::rt::Files;
 
-impl Workspace<'_> {
-    /// Takes the text of a schema, from a file or from the editor.
-    pub fn open_schema(
+/// The texts of the files of a schema, as they are now.
+#[derive(Drop)]
+struct Texts {
+    texts: Vec<String>,
+    is_unread: bool,
+}
+
+impl<'e> Workspace<'e> {
+    /// Finds and reads the schema of each open document again. Policies whose schema or options have changed are judged again,
+    /// and a schema of no open document counts no longer.
+    pub fn refresh<R: Files + AllocGlobal + Clone + Drop>(
         &mut self,
-        uri: &str,
-        syntax: Syntax,
-        text: &str,
-        source: Source,
+        rt: &R,
     ) -> Result<(), AllocError> {
-        let key = key_of(self.alloc, uri)?;
-        if let Some(schema) = self.schemas.get_mut(key.as_str()) {
-            schema.document.replace(self.alloc, self.extensions, text)?;
-            schema.source = source;
-            return Ok(());
+        let mut read = BTreeSet::new(self.alloc);
+        for path in keys_of(self.alloc, &self.open_schemas)? {
+            self.refresh_schema(rt, path.as_str(), &mut read)?;
         }
-        let document = SchemaDocument::new(self.alloc, self.extensions, syntax, text)?;
-        let schema = SchemaFile {
-            uri: String::from_str(self.alloc, uri)?,
-            source,
+        for uri in keys_of(self.alloc, &self.documents)? {
+            self.refresh_document(rt, uri.as_str(), &mut read)?;
+        }
+        for key in keys_of(self.alloc, &self.schemas)? {
+            if !read.contains(key.as_str()) {
+                match self.schemas.remove(key.as_str()) {
+                    Some(old) => drop(old),
+                    None => {}
+                }
+            }
+        }
+        Ok(())
+    }
+
+    /// Finds and reads the schema of an open schema file again, unless this refresh has read it.
+    fn refresh_schema<R: Files + AllocGlobal + Clone + Drop>(
+        &mut self,
+        rt: &R,
+        path: &str,
+        read: &mut BTreeSet<String>,
+    ) -> Result<(), AllocError> {
+        let home = self.home_of_schema(rt, path)?;
+        let Some(key) = self.load_once(rt, Some(home), read)? else {
+            return Ok(());
+        };
+        if let Some(open) = self.open_schemas.get_mut(path) {
+            if open.schema.as_str() != key.as_str() {
+                open.schema = key;
+                open.is_shown = false;
+            }
+        }
+        Ok(())
+    }
+
+    /// Finds and reads the schema of a document again, unless this refresh has read it, and judges the policies again if their
+    /// judge is another one now.
+    fn refresh_document<R: Files + AllocGlobal + Clone + Drop>(
+        &mut self,
+        rt: &R,
+        uri: &str,
+        read: &mut BTreeSet<String>,
+    ) -> Result<(), AllocError> {
+        let path = match self.documents.get(uri) {
+            Some(document) => clone_of(document.path.as_ref())?,
+            None => return Ok(()),
+        };
+        let home = self.home_of(rt, path.as_ref())?;
+        let schema = self.load_once(rt, home, read)?;
+        let judge = self.judge_by(schema.as_ref())?;
+        let Some(document) = self.documents.get_mut(uri) else {
+            return Ok(());
+        };
+        if !are_alike(document.policies.judge(), &judge) {
+            document.policies.judge_all(self.alloc, judge)?;
+            document.is_shown = false;
+        }
+        if document.schema != schema {
+            document.schema = schema;
+            document.is_shown = false;
+        }
+        Ok(())
+    }
+
+    /// Reads a schema, unless this refresh has read it. The answer is its key.
+    fn load_once<R: Files + AllocGlobal + Clone + Drop>(
+        &mut self,
+        rt: &R,
+        home: Option<Home>,
+        read: &mut BTreeSet<String>,
+    ) -> Result<Option<String>, AllocError> {
+        if let Some(home) = &home {
+            if read.contains(home.key.as_str()) {
+                return Ok(Some(home.key.clone()?));
+            }
+            read.insert(home.key.clone()?)?;
+        }
+        self.load(rt, home)
+    }
+
+    /// Reads a schema, unless its texts are those that it has. The answer is its key.
+    pub fn load<R: Files + AllocGlobal + Clone + Drop>(
+        &mut self,
+        rt: &R,
+        home: Option<Home>,
+    ) -> Result<Option<String>, AllocError> {
+        let Some(Home { key, paths }) = home else {
+            return Ok(None);
+        };
+        let texts = self.texts_of(rt, &paths)?;
+        if let Some(schema) = self.schemas.get(key.as_str()) {
+            if is_as_read(schema, &paths, &texts) {
+                return Ok(Some(key));
+            }
+        }
+        self.put_schema(key.as_str(), paths, &texts)?;
+        for document in self.documents.values_mut() {
+            if document.schema.as_ref() == Some(&key) {
+                document.is_shown = false;
+            }
+        }
+        for open in self.open_schemas.values_mut() {
+            if open.schema == key {
+                open.is_shown = false;
+            }
+        }
+        Ok(Some(key))
+    }
+
+    /// Puts the texts of a schema in place of those that it had. If they have a fault, the validator by the last ones without
+    /// one stays, unless a file could not be read.
+    fn put_schema(
+        &mut self,
+        key: &str,
+        paths: Vec<String>,
+        read: &Texts,
+    ) -> Result<(), AllocError> {
+        let mut sources = Vec::with_capacity(self.alloc, paths.len())?;
+        for (path, text) in paths.iter().zip(read.texts.iter()) {
+            let text = text.as_str();
+            let syntax = schema_syntax(path.as_str()).unwrap_or(Syntax::of(text));
+            sources.push(SchemaSource { syntax, text })?;
+        }
+        let was_read = match self.schemas.get(key) {
+            Some(schema) => !schema.is_unread,
+            None => false,
+        };
+        if was_read && !read.is_unread {
+            if let Some(schema) = self.schemas.get_mut(key) {
+                schema
+                    .document
+                    .replace(self.alloc, self.extensions, sources.as_slice())?;
+                schema.paths = paths;
+                return Ok(());
+            }
+        }
+        let document = SchemaDocument::of_texts(self.alloc, self.extensions, sources.as_slice())?;
+        let schema = Schema {
+            paths,
+            is_unread: read.is_unread,
             document,
         };
-        match self.schemas.insert(key, schema)? {
+        match self
+            .schemas
+            .insert(String::from_str(self.alloc, key)?, schema)?
+        {
             Some(old) => drop(old),
             None => {}
         }
         Ok(())
     }
 
-    /// Closes a schema: from now on it counts as its file has it, and not at all if there is no file that can be read.
-    pub fn close_schema<R: Files + AllocGlobal + Clone + Drop>(
-        &mut self,
+    /// The texts of the files at these paths: of the editor where a file is open, else of the disk.
+    fn texts_of<R: Files + AllocGlobal + Clone + Drop>(
+        &self,
         rt: &R,
-        uri: &str,
-    ) -> Result<(), AllocError> {
-        let key = key_of(self.alloc, uri)?;
-        let text = text_of_file(rt, key.as_str())?;
-        let Some(schema) = self.schemas.get_mut(key.as_str()) else {
-            return Ok(());
-        };
-        match text {
-            Some(text) => {
-                schema
-                    .document
-                    .replace(self.alloc, self.extensions, text.as_str())?;
-                schema.source = Source::File;
-            }
-            None => match self.schemas.remove(key.as_str()) {
-                Some(old) => drop(old),
-                None => {}
-            },
+        paths: &Vec<String>,
+    ) -> Result<Texts, AllocError> {
+        let mut texts = Vec::with_capacity(self.alloc, paths.len())?;
+        let mut is_unread = false;
+        for path in paths {
+            let text = self.text_at(rt, path.as_str())?;
+            is_unread = is_unread || text.is_none();
+            texts.push(text.unwrap_or(String::new(self.alloc)))?;
         }
-        Ok(())
+        Ok(Texts { texts, is_unread })
     }
 
-    /// Takes edits of a schema.
-    pub fn edit_schema(
-        &mut self,
-        uri: &str,
-        edits: &[Edit<'_>],
-        version: Option<u64>,
-    ) -> Result<(), AllocError> {
-        let key = key_of(self.alloc, uri)?;
-        if !self.is_open_schema(key.as_str()) {
-            return Ok(());
-        }
-        let Some(schema) = self.schemas.get_mut(key.as_str()) else {
-            return Ok(());
-        };
-        schema.document.edit(self.alloc, self.extensions, edits)?;
-        schema.source = Source::Editor(version);
-        Ok(())
-    }
-
-    /// The path of the schema of a file: the one that the editor named, else the nearest one. The schema is read, unless it is
-    /// open.
-    pub fn find_schema<R: Files + AllocGlobal + Clone + Drop>(
-        &mut self,
+    /// The text of the schema file at a path, if it is open or can be read.
+    pub fn text_at<R: Files + AllocGlobal + Clone + Drop>(
+        &self,
         rt: &R,
-        file: Option<&String>,
+        path: &str,
     ) -> Result<Option<String>, AllocError> {
-        let found = match (&self.options.schema, file) {
-            (Some(named), _) => Some(named.clone()?),
-            (None, Some(path)) => nearest_schema(rt, path.as_str())?,
-            (None, None) => None,
-        };
-        let Some(path) = found else {
-            return Ok(None);
-        };
-        if self.is_open_schema(path.as_str()) {
-            return Ok(Some(path));
-        }
-        let Some(text) = text_of_file(rt, path.as_str())? else {
-            return Ok(None);
-        };
-        if !self.has_schema(path.as_str(), text.as_str()) {
-            let syntax = schema_syntax(path.as_str()).unwrap_or(Syntax::of(text.as_str()));
-            let uri = uri_of(self.alloc, path.as_str())?;
-            self.open_schema(uri.as_str(), syntax, text.as_str(), Source::File)?;
-        }
-        Ok(Some(path))
-    }
-
-    /// Whether the schema at this path is open in the editor.
-    fn is_open_schema(&self, path: &str) -> bool {
-        match self.schemas.get(path) {
-            Some(schema) => matches!(schema.source, Source::Editor(_)),
-            None => false,
+        match self.open_schemas.get(path) {
+            Some(open) => Ok(Some(open.text.clone()?)),
+            None => text_of_file(rt, path),
         }
     }
 
-    /// Whether the schema at this path was read with this text.
-    fn has_schema(&self, path: &str, text: &str) -> bool {
-        match self.schemas.get(path) {
-            Some(schema) => schema.document.own().text.as_str() == text,
-            None => false,
+    /// The judge by the schema with this key and by the options; of reading alone if there is no schema without a fault.
+    pub fn judge_by(&self, key: Option<&String>) -> Result<Judge<'e, Check>, AllocError> {
+        let validator = match self.schema_at(key) {
+            Some(schema) if !schema.is_unread => schema.document.validator(),
+            _ => None,
+        };
+        match validator {
+            Some(validator) => Ok(Judge::Settings(SharedSettings {
+                validator: validator.clone()?,
+                mode: self.options.mode,
+                level: self.options.level,
+            })),
+            None => Ok(Judge::Reading(self.extensions)),
         }
+    }
+}
+
+/// Whether a schema has these files, with these texts.
+fn is_as_read(schema: &Schema<'_>, paths: &Vec<String>, read: &Texts) -> bool {
+    if schema.is_unread != read.is_unread || schema.paths != *paths {
+        return false;
+    }
+    for (own, text) in schema.document.texts().iter().zip(read.texts.iter()) {
+        if own.text.as_str() != text.as_str() {
+            return false;
+        }
+    }
+    true
+}
+
+/// Whether two judges say the same, because they have one validator and the same options.
+fn are_alike(one: &Judge<'_, Check>, two: &Judge<'_, Check>) -> bool {
+    match (one, two) {
+        (Judge::Reading(_), Judge::Reading(_)) => true,
+        (Judge::Settings(one), Judge::Settings(two)) => {
+            one.mode == two.mode
+                && one.level == two.level
+                && Rc::ptr_eq(&one.validator, &two.validator)
+        }
+        _ => false,
+    }
+}
+
+/// The keys of a map.
+fn keys_of<V>(alloc: Global, map: &BTreeMap<String, V>) -> Result<Vec<String>, AllocError> {
+    let mut keys = Vec::with_capacity(alloc, map.len())?;
+    for key in map.keys() {
+        keys.push(key.clone()?)?;
+    }
+    Ok(keys)
+}
+
+fn clone_of(text: Option<&String>) -> Result<Option<String>, AllocError> {
+    match text {
+        Some(text) => Ok(Some(text.clone()?)),
+        None => Ok(None),
     }
 }

@@ -68,7 +68,7 @@ impl<'e> Session<'e> {
         match (self.phase, call.method) {
             (Phase::Fresh, "initialize") => {
                 let told = String::from_str(alloc, CAPABILITIES)?;
-                self.workspace.take_options(call)?;
+                self.workspace.begin(call)?;
                 self.phase = Phase::Serving;
                 Ok(Ok(told))
             }

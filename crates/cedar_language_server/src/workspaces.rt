@@ -1,10 +1,10 @@
 // The open documents, and the schemas by which policies are checked.
-use crate::uris::path_of;
-use cedar_editor::documents::{Judge, PolicyDocument};
-use cedar_editor::edits::Edit;
-use cedar_editor::schemas::SchemaDocument;
-use cedar_types::base::{ArgumentCheck, ExtensionSchemas, ValidationMode};
-use cedar_verdicts::settings::Settings;
+use crate::options::Options;
+use crate::uris::{path_of, uri_of};
+use cedar_editor::documents::PolicyDocument;
+use cedar_editor::edits::{Edit, edited};
+use cedar_editor::schemas::{SchemaDocument, SchemaText};
+use cedar_types::base::{ArgumentCheck, ExtensionSchemas};
 use std::alloc::{AllocError, Global};
 use std::collections::BTreeMap;
 use std::rt::Files;
@@ -12,48 +12,36 @@ use std::rt::Files;
 /// The check of the arguments of an extension function.
 pub type Check = Box<dyn ArgumentCheck>;
 
-/// The options that the editor gives at the beginning.
+/// A document of policies that is open in the editor. Its judge is that of its schema.
 #[derive(Drop)]
-pub struct Options {
-    pub mode: ValidationMode,
-    pub level: Option<u32>,
-    /// The path of the schema of all policies, if the editor names one.
-    pub schema: Option<String>,
-}
-
-/// A document of policies that is open in the editor.
-#[derive(Drop)]
-pub struct Document {
+pub struct Document<'e> {
     pub version: Option<u64>,
-    pub policies: PolicyDocument,
-    path: Option<String>,
-    /// The path of the schema by which the document is checked.
-    schema: Option<String>,
+    pub policies: PolicyDocument<'e, Check>,
+    pub path: Option<String>,
+    /// The key of the schema by which the document is checked.
+    pub schema: Option<String>,
+    /// The editor was told the diagnostics as they are now.
+    pub is_shown: bool,
 }
 
-/// The source of a schema's text.
-#[derive(Clone, Copy)]
-pub enum Source {
-    File,
-    /// The editor, with the version of the text.
-    Editor(Option<u64>),
-}
-
-impl Source {
-    /// The version of the text in the editor, if it has one there.
-    pub fn version(self) -> Option<u64> {
-        match self {
-            Source::File => None,
-            Source::Editor(version) => version,
-        }
-    }
-}
-
-/// A schema that policies are checked by, or that is open.
+/// A schema file that is open in the editor.
 #[derive(Drop)]
-pub struct SchemaFile<'e> {
+pub struct OpenSchema {
     pub uri: String,
-    pub source: Source,
+    pub version: Option<u64>,
+    pub text: String,
+    /// The key of the schema of which the file is a part.
+    pub schema: String,
+    /// The editor was told the diagnostics as they are now.
+    pub is_shown: bool,
+}
+
+/// A schema that policies are checked by, or that is open: its files, and their texts in the same order.
+#[derive(Drop)]
+pub struct Schema<'e> {
+    pub paths: Vec<String>,
+    /// A file of the schema cannot be read, so that nothing is checked by it.
+    pub is_unread: bool,
     pub document: SchemaDocument<'e, Check>,
 }
 
@@ -61,65 +49,88 @@ pub struct SchemaFile<'e> {
 #[derive(Drop)]
 pub struct Workspace<'e> {
     pub alloc: Global,
-    pub extensions: &'e ExtensionSchemas,
+    pub extensions: &'e ExtensionSchemas<Check>,
+    /// The options that the editor gave at the beginning.
+    pub first_options: Options,
     pub options: Options,
+    /// The folder that the editor has open.
+    pub root: Option<String>,
+    /// The editor watches files for the server.
+    pub watches: bool,
+    /// Messages to the editor that wait for the next notification.
+    pub waiting: Vec<String>,
     /// The documents by their URIs.
-    documents: BTreeMap<String, Document>,
-    /// The schemas by their paths.
-    pub schemas: BTreeMap<String, SchemaFile<'e>>,
+    pub documents: BTreeMap<String, Document<'e>>,
+    /// The open schema files by their paths.
+    pub open_schemas: BTreeMap<String, OpenSchema>,
+    /// The schemas by their keys.
+    pub schemas: BTreeMap<String, Schema<'e>>,
 }
 
 impl<'e> Workspace<'e> {
     /// A workspace in which nothing is open.
-    pub fn new(alloc: Global, extensions: &'e ExtensionSchemas) -> Workspace<'e> {
+    pub fn new(alloc: Global, extensions: &'e ExtensionSchemas<Check>) -> Workspace<'e> {
         Workspace {
             alloc,
             extensions,
-            options: Options {
-                mode: ValidationMode::Strict,
-                level: None,
-                schema: None,
-            },
+            first_options: Options::new(alloc),
+            options: Options::new(alloc),
+            root: None,
+            watches: false,
+            waiting: Vec::new(alloc),
             documents: BTreeMap::new(alloc),
+            open_schemas: BTreeMap::new(alloc),
             schemas: BTreeMap::new(alloc),
         }
     }
 
     /// The document of policies with this URI, if it is open.
-    pub fn document(&self, uri: &str) -> Option<&Document> {
+    pub fn document(&self, uri: &str) -> Option<&Document<'e>> {
         self.documents.get(uri)
     }
 
-    /// The schema with this URI, if it was read.
-    pub fn schema_named(&self, uri: &str) -> Result<Option<&SchemaFile<'e>>, AllocError> {
-        let key = key_of(self.alloc, uri)?;
-        Ok(self.schemas.get(key.as_str()))
-    }
-
     /// The schema by which a document is checked.
-    pub fn schema_of(&self, document: &Document) -> Option<&SchemaFile<'e>> {
-        schema_at(&self.schemas, document.schema.as_ref())
+    pub fn schema_of(&self, document: &Document<'e>) -> Option<&Schema<'e>> {
+        self.schema_at(document.schema.as_ref())
     }
 
-    /// The judge of the policies of a document.
-    pub fn judge_of(&self, document: &Document) -> Judge<'_, Check> {
-        judge_by(self.extensions, self.schema_of(document), &self.options)
+    /// The schema with this key, if there is a key.
+    pub fn schema_at(&self, key: Option<&String>) -> Option<&Schema<'e>> {
+        self.schemas.get(key?.as_str())
     }
 
-    /// The URIs of the documents that are checked by the schema with this URI, and of the documents that have no schema.
-    pub fn checked_by(&self, uri: &str) -> Result<Vec<String>, AllocError> {
+    /// The open schema file with this URI, with its text as its schema has it.
+    pub fn schema_named(
+        &self,
+        uri: &str,
+    ) -> Result<Option<(&OpenSchema, &SchemaText)>, AllocError> {
         let key = key_of(self.alloc, uri)?;
-        let mut names = Vec::new(self.alloc);
-        for (name, document) in self.documents.iter() {
-            let is_by_it = match &document.schema {
-                Some(path) => path.as_str() == key.as_str(),
-                None => true,
-            };
-            if is_by_it {
-                names.push(name.clone()?)?;
+        let Some(open) = self.open_schemas.get(key.as_str()) else {
+            return Ok(None);
+        };
+        match self.text_in_schema(key.as_str(), open) {
+            Some(text) => Ok(Some((open, text))),
+            None => Ok(None),
+        }
+    }
+
+    /// The URI of the schema file at a path: the editor's own if it is open there.
+    pub fn uri_of_schema(&self, path: &str) -> Result<String, AllocError> {
+        match self.open_schemas.get(path) {
+            Some(open) => open.uri.clone(),
+            None => uri_of(self.alloc, path),
+        }
+    }
+
+    /// The text of the open schema file at a path, as its schema has it.
+    pub fn text_in_schema(&self, path: &str, open: &OpenSchema) -> Option<&SchemaText> {
+        let schema = self.schemas.get(open.schema.as_str())?;
+        for (own, text) in schema.paths.iter().zip(schema.document.texts()) {
+            if own.as_str() == path {
+                return Some(text);
             }
         }
-        Ok(names)
+        None
     }
 
     /// Opens a document of policies.
@@ -131,19 +142,25 @@ impl<'e> Workspace<'e> {
         version: Option<u64>,
     ) -> Result<(), AllocError> {
         let path = path_of(self.alloc, uri)?;
-        let schema = self.find_schema(rt, path.as_ref())?;
-        let found = schema_at(&self.schemas, schema.as_ref());
-        let judge = judge_by(self.extensions, found, &self.options);
-        let policies = PolicyDocument::new(self.alloc, &judge, text)?;
+        let home = self.home_of(rt, path.as_ref())?;
+        let schema = self.load(rt, home)?;
+        let judge = self.judge_by(schema.as_ref())?;
+        let policies = PolicyDocument::new(self.alloc, judge, text)?;
         let document = Document {
             version,
             policies,
             path,
             schema,
+            is_shown: false,
         };
-        self.documents
-            .insert(String::from_str(self.alloc, uri)?, document)?;
-        Ok(())
+        match self
+            .documents
+            .insert(String::from_str(self.alloc, uri)?, document)?
+        {
+            Some(old) => drop(old),
+            None => {}
+        }
+        self.refresh(rt)
     }
 
     /// Takes edits of a document of policies.
@@ -153,73 +170,73 @@ impl<'e> Workspace<'e> {
         edits: &[Edit<'_>],
         version: Option<u64>,
     ) -> Result<(), AllocError> {
-        let Some(document) = self.documents.get_mut(uri) else {
-            return Ok(());
-        };
-        let schema = schema_at(&self.schemas, document.schema.as_ref());
-        let judge = judge_by(self.extensions, schema, &self.options);
-        document.policies.edit(self.alloc, &judge, edits)?;
-        document.version = version;
+        if let Some(document) = self.documents.get_mut(uri) {
+            document.policies.edit(self.alloc, edits)?;
+            document.version = version;
+            document.is_shown = false;
+        }
         Ok(())
     }
 
-    /// Judges all policies of a document again, by the schema that is found for it now, or else by its former one.
-    pub fn judge_again<R: Files + AllocGlobal + Clone + Drop>(
+    /// Opens a schema file, whose text counts from now on as the editor has it.
+    pub fn open_schema<R: Files + AllocGlobal + Clone + Drop>(
+        &mut self,
+        rt: &R,
+        uri: &str,
+        text: &str,
+        version: Option<u64>,
+    ) -> Result<(), AllocError> {
+        let open = OpenSchema {
+            uri: String::from_str(self.alloc, uri)?,
+            version,
+            text: String::from_str(self.alloc, text)?,
+            schema: String::new(self.alloc),
+            is_shown: false,
+        };
+        self.open_schemas.insert(key_of(self.alloc, uri)?, open)?;
+        self.refresh(rt)
+    }
+
+    /// Takes edits of an open schema file.
+    pub fn edit_schema<R: Files + AllocGlobal + Clone + Drop>(
+        &mut self,
+        rt: &R,
+        uri: &str,
+        edits: &[Edit<'_>],
+        version: Option<u64>,
+    ) -> Result<(), AllocError> {
+        let key = key_of(self.alloc, uri)?;
+        let Some(open) = self.open_schemas.get_mut(key.as_str()) else {
+            return Ok(());
+        };
+        open.text = edited(self.alloc, open.text.as_str(), edits)?;
+        open.version = version;
+        open.is_shown = false;
+        self.refresh(rt)
+    }
+
+    /// Closes a schema file: from now on it counts as it is on disk, and not at all if it is not there.
+    pub fn close_schema<R: Files + AllocGlobal + Clone + Drop>(
         &mut self,
         rt: &R,
         uri: &str,
     ) -> Result<(), AllocError> {
-        let path = match self.documents.get(uri) {
-            Some(document) => clone_of(&document.path)?,
-            None => return Ok(()),
-        };
-        let found = self.find_schema(rt, path.as_ref())?;
-        let Some(document) = self.documents.get_mut(uri) else {
-            return Ok(());
-        };
-        if found.is_some() {
-            document.schema = found;
-        }
-        let schema = schema_at(&self.schemas, document.schema.as_ref());
-        let judge = judge_by(self.extensions, schema, &self.options);
-        document.policies.judge_all(self.alloc, &judge)
+        let key = key_of(self.alloc, uri)?;
+        self.open_schemas.remove(key.as_str());
+        self.refresh(rt)
     }
 
     /// Closes a document of policies, if it is open.
-    pub fn close(&mut self, uri: &str) {
-        self.documents.remove(uri);
-    }
-}
-
-/// The schema at a path, if there is a path, and a schema was read there.
-fn schema_at<'a, 'e>(
-    schemas: &'a BTreeMap<String, SchemaFile<'e>>,
-    path: Option<&String>,
-) -> Option<&'a SchemaFile<'e>> {
-    match path {
-        Some(path) => schemas.get(path.as_str()),
-        None => None,
-    }
-}
-
-/// The judge of policies: settings by this schema and these options, or reading alone if there is no validator yet.
-fn judge_by<'a>(
-    extensions: &'a ExtensionSchemas,
-    schema: Option<&'a SchemaFile<'_>>,
-    options: &Options,
-) -> Judge<'a, Check> {
-    let validator = match schema {
-        Some(schema) => schema.document.validator(),
-        None => None,
-    };
-    match validator {
-        Some(validator) => Judge::Settings(Settings {
-            validator,
-            mode: options.mode,
-            level: options.level,
-            syntax: None,
-        }),
-        None => Judge::Reading(extensions),
+    pub fn close<R: Files + AllocGlobal + Clone + Drop>(
+        &mut self,
+        rt: &R,
+        uri: &str,
+    ) -> Result<(), AllocError> {
+        match self.documents.remove(uri) {
+            Some(old) => drop(old),
+            None => {}
+        }
+        self.refresh(rt)
     }
 }
 
@@ -228,12 +245,5 @@ pub fn key_of(alloc: Global, uri: &str) -> Result<String, AllocError> {
     match path_of(alloc, uri)? {
         Some(path) => Ok(path),
         None => String::from_str(alloc, uri),
-    }
-}
-
-fn clone_of(text: &Option<String>) -> Result<Option<String>, AllocError> {
-    match text {
-        Some(text) => Ok(Some(text.clone()?)),
-        None => Ok(None),
     }
 }

@@ -1,5 +1,5 @@
 // Changes of documents: what is shown behind a change is what is shown of the changed text.
-use crate::editor_tests::judged::{SCHEMA, check_shown, judge_by, place_in};
+use crate::editor_tests::judged::{Check, SCHEMA, check_shown, document_by, place_in};
 use cedar_editor::documents::PolicyDocument;
 use cedar_editor::edits::Edit;
 use cedar_editor::schemas::SchemaDocument;
@@ -168,7 +168,7 @@ const CHANGES: [(Change, usize, &[&str]); 14] = [
 ];
 
 /// The bytes at which the policies of a document begin and end.
-fn places_of(alloc: Global, document: &PolicyDocument) -> Result<String, AllocError> {
+fn places_of(alloc: Global, document: &PolicyDocument<'_, Check>) -> Result<String, AllocError> {
     let mut places = String::new(alloc);
     for placed in document.policies() {
         writeln!(places, "{} {}", placed.start, placed.end())?;
@@ -179,8 +179,8 @@ fn places_of(alloc: Global, document: &PolicyDocument) -> Result<String, AllocEr
 /// Checks a document of a changed text: the text, the places of the policies, their number, and the lines on them.
 fn check(
     rt: &(impl Abort + AllocGlobal),
-    document: &PolicyDocument,
-    fresh: &PolicyDocument,
+    document: &PolicyDocument<'_, Check>,
+    fresh: &PolicyDocument<'_, Check>,
     count: usize,
     wanted: &[&str],
 ) -> Result<(), Fail> {
@@ -199,24 +199,23 @@ fn documents_behind_changes(rt: HostRuntime) -> Result<(), Fail> {
     let alloc = rt.alloc();
     let extensions = ExtensionSchemas::default(alloc);
     let schema = SchemaDocument::new(alloc, &extensions, Syntax::Cedar, SCHEMA)?;
-    let judge = judge_by(&schema, None).ok_or("there is a schema")?;
     for (change, count, wanted) in &CHANGES {
         let Change { text, part, new } = *change;
         let place = place_in(text, part);
-        let mut changed = PolicyDocument::new(alloc, &judge, text)?;
+        let mut changed = document_by(alloc, &schema, text)?;
         let range = Some(changed.range(place));
-        changed.change(alloc, &judge, place, new)?;
-        let fresh = PolicyDocument::new(alloc, &judge, changed.text())?;
+        changed.change(alloc, place, new)?;
+        let fresh = document_by(alloc, &schema, changed.text())?;
         check(&rt, &changed, &fresh, *count, wanted)?;
-        let mut edited = PolicyDocument::new(alloc, &judge, text)?;
-        edited.edit(alloc, &judge, &[Edit { range, text: new }])?;
+        let mut edited = document_by(alloc, &schema, text)?;
+        edited.edit(alloc, &[Edit { range, text: new }])?;
         check(&rt, &edited, &fresh, *count, wanted)?;
-        let mut replaced = PolicyDocument::new(alloc, &judge, text)?;
-        replaced.replace(alloc, &judge, fresh.text())?;
+        let mut replaced = document_by(alloc, &schema, text)?;
+        replaced.replace(alloc, fresh.text())?;
         check(&rt, &replaced, &fresh, *count, wanted)?;
         // and back
-        replaced.replace(alloc, &judge, text)?;
-        replaced.replace(alloc, &judge, fresh.text())?;
+        replaced.replace(alloc, text)?;
+        replaced.replace(alloc, fresh.text())?;
         check(&rt, &replaced, &fresh, *count, wanted)?;
     }
     Ok(())
@@ -233,18 +232,17 @@ fn places_that_are_no_part(rt: HostRuntime) -> Result<(), Fail> {
     let alloc = rt.alloc();
     let extensions = ExtensionSchemas::default(alloc);
     let schema = SchemaDocument::new(alloc, &extensions, Syntax::Cedar, SCHEMA)?;
-    let judge = judge_by(&schema, None).ok_or("there is a schema")?;
-    let mut document = PolicyDocument::new(alloc, &judge, ACCENT)?;
+    let mut document = document_by(alloc, &schema, ACCENT)?;
     for (start, end) in &NO_PARTS {
         let place = Loc {
             start: *start,
             end: *end,
         };
-        document.change(alloc, &judge, place, "permit")?;
+        document.change(alloc, place, "permit")?;
         assert_eq!(rt; document.text(), ACCENT);
     }
     let accent = Loc { start: 3, end: 5 };
-    document.change(alloc, &judge, accent, "e")?;
+    document.change(alloc, accent, "e")?;
     assert_eq!(rt;
         document.text(),
         "// e\nforbid(principal, action, resource);"

@@ -99,7 +99,7 @@ fn policies_alone(rt: HostRuntime) -> Result<(), Fail> {
     let judge = judge_by(&schema, None).ok_or("there is a schema")?;
     let settings = judge.settings().ok_or("there are settings")?;
     for (text, id, has_error, count, part) in &CHECKED {
-        let policy = check_policy(alloc, settings, text)?.ok_or("a policy")?;
+        let policy = check_policy(alloc, &settings, text)?.ok_or("a policy")?;
         let own = policy.id(alloc, 3)?;
         assert_eq!(rt; own.as_str(), *id, "{text}");
         assert_eq!(rt; policy.has_error(), *has_error, "{text}");
@@ -117,7 +117,7 @@ fn policies_alone(rt: HostRuntime) -> Result<(), Fail> {
         assert!(rt; read.verdict.is_none(), "{text}");
     }
     for text in ["", "  \n", "// permit"] {
-        assert!(rt; check_policy(alloc, settings, text)?.is_none(), "{text}");
+        assert!(rt; check_policy(alloc, &settings, text)?.is_none(), "{text}");
         assert!(rt; read_alone(alloc, &extensions, text)?.is_none(), "{text}");
     }
     for (annotation, number, id) in &IDS {

@@ -1,7 +1,8 @@
 // Completions at positions of policies, in which a mark `^` stands.
-use crate::editor_tests::judged::{OF_USERS, SCHEMA, VIEW, judge_by, text_at, unmarked};
+use crate::editor_tests::judged::{
+    OF_USERS, SCHEMA, VIEW, document_by, judge_by, text_at, unmarked,
+};
 use cedar_editor::completions::{Item, ItemKind, completion_at};
-use cedar_editor::documents::PolicyDocument;
 use cedar_editor::schemas::SchemaDocument;
 use cedar_findings::syntaxes::Syntax;
 use cedar_types::base::ExtensionSchemas;
@@ -219,10 +220,10 @@ fn completions(rt: HostRuntime) -> Result<(), Fail> {
         for (rest, replaced) in *rests {
             let marked = format!(in alloc; "// é\n{front}{rest}")?;
             let (text, byte) = unmarked(alloc, marked.as_str())?;
-            let document = PolicyDocument::new(alloc, &judge, text.as_str())?;
+            let document = document_by(alloc, &schema, text.as_str())?;
             let placed = document.policy_at(byte).ok_or("a policy")?;
             let at = byte.saturating_sub(placed.start);
-            let found = completion_at(alloc, settings, placed.policy(), at)?;
+            let found = completion_at(alloc, &settings, placed.policy(), at)?;
             let items = found.items.as_slice();
             check_items(&rt, marked.as_str(), items, *kind, *wanted);
             let place = placed.place(found.place);

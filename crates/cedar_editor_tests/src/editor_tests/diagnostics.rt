@@ -1,7 +1,8 @@
 // Diagnostics of documents: places, codes and words.
-use crate::editor_tests::judged::{OF_USERS, SCHEMA, VIEW, check_shown, judge_by};
+use crate::editor_tests::judged::{OF_USERS, SCHEMA, VIEW, check_shown, document_by};
 use cedar_editor::diagnostics::{add_policy, of_finding};
-use cedar_editor::documents::{Judge, PolicyDocument};
+use cedar_editor::documents::PolicyDocument;
+use cedar_editor::judges::Judge;
 use cedar_editor::schemas::SchemaDocument;
 use cedar_findings::findings::Severity;
 use cedar_findings::syntaxes::Syntax;
@@ -111,16 +112,14 @@ fn places_of_diagnostics(rt: HostRuntime) -> Result<(), Fail> {
     let alloc = rt.alloc();
     let extensions = ExtensionSchemas::default(alloc);
     let schema = SchemaDocument::new(alloc, &extensions, Syntax::Cedar, SCHEMA)?;
-    let judge = judge_by(&schema, None).ok_or("there is a schema")?;
     for (text, wanted) in &DIAGNOSED {
-        let document = PolicyDocument::new(alloc, &judge, text)?;
+        let document = document_by(alloc, &schema, text)?;
         check_shown(&rt, &document, wanted)?;
     }
     // without a schema, faults and ids alone are told
-    let judge = Judge::Reading(&extensions);
     let document = PolicyDocument::new(
         alloc,
-        &judge,
+        Judge::Reading(&extensions),
         "permit(principal is Usr, action, resource);\n@id(\"policy0\") permit(principal);",
     )?;
     check_shown(
@@ -173,10 +172,9 @@ fn words_of_diagnostics(rt: HostRuntime) -> Result<(), Fail> {
     let alloc = rt.alloc();
     let extensions = ExtensionSchemas::default(alloc);
     let schema = SchemaDocument::new(alloc, &extensions, Syntax::Cedar, SCHEMA)?;
-    let judge = judge_by(&schema, None).ok_or("there is a schema")?;
     for (front, condition, wanted) in &MESSAGES {
         let text = format!(in alloc; "\n{front}{condition} }};")?;
-        let document = PolicyDocument::new(alloc, &judge, text.as_str())?;
+        let document = document_by(alloc, &schema, text.as_str())?;
         assert_eq!(rt; document.policies().len(), 1, "{condition}");
         for placed in document.policies() {
             let mut told = Vec::new(alloc);

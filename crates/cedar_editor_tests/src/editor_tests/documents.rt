@@ -1,9 +1,8 @@
 // Documents of three policies: where these stand, and what other settings say of them.
-use crate::editor_tests::judged::{SCHEMA, check_shown, judge_by};
-use cedar_editor::documents::{
-    Judge, PlacedPolicy, PolicyDocument, silent_policies_keep_the_promise,
-};
+use crate::editor_tests::judged::{SCHEMA, check_shown, document_by, judge_by};
+use cedar_editor::documents::{PlacedPolicy, silent_policies_keep_the_promise};
 use cedar_editor::edits::Edit;
+use cedar_editor::judges::Judge;
 use cedar_editor::lines::{Position, Range};
 use cedar_editor::schemas::SchemaDocument;
 use cedar_editor::symbols::{Symbol, SymbolKind, policy_symbols};
@@ -85,11 +84,10 @@ fn three_policies(rt: HostRuntime) -> Result<(), Fail> {
     let alloc = rt.alloc();
     let extensions = ExtensionSchemas::default(alloc);
     let schema = SchemaDocument::new(alloc, &extensions, Syntax::Cedar, SCHEMA)?;
-    let judge = judge_by(&schema, None).ok_or("there is a schema")?;
-    let document = PolicyDocument::new(alloc, &judge, THREE)?;
+    let document = document_by(alloc, &schema, THREE)?;
     assert_eq!(rt; document.text(), THREE);
     assert_eq!(rt; document.policies().len(), PLACES.len());
-    let symbols = policy_symbols(alloc, &document)?;
+    let symbols = policy_symbols(alloc, document.policies())?;
     assert_eq!(rt; symbols.len(), PLACES.len());
     for (number, wanted) in PLACES.iter().enumerate() {
         let placed = document.policies().get(number).ok_or("a policy")?;
@@ -131,8 +129,7 @@ fn mended_and_judged_again(rt: HostRuntime) -> Result<(), Fail> {
     let alloc = rt.alloc();
     let extensions = ExtensionSchemas::default(alloc);
     let schema = SchemaDocument::new(alloc, &extensions, Syntax::Cedar, SCHEMA)?;
-    let judge = judge_by(&schema, None).ok_or("there is a schema")?;
-    let mut document = PolicyDocument::new(alloc, &judge, THREE)?;
+    let mut document = document_by(alloc, &schema, THREE)?;
     let edits = [
         Edit {
             range: at(2, 21),
@@ -143,30 +140,29 @@ fn mended_and_judged_again(rt: HostRuntime) -> Result<(), Fail> {
             text: "principal has vip && ",
         },
     ];
-    document.edit(alloc, &judge, &edits)?;
+    document.edit(alloc, &edits)?;
     assert_eq!(rt; document.text(), MENDED);
     check_shown(&rt, &document, &[])?;
     for placed in document.policies() {
         assert!(rt; !placed.policy().has_error());
     }
-    let settings = judge.settings().ok_or("there are settings")?;
-    silent_policies_keep_the_promise(settings, document.policies());
+    silent_policies_keep_the_promise(&document);
     // other settings judge the same text
     let at_one = judge_by(&schema, Some(1)).ok_or("there is a schema")?;
     let at_two = judge_by(&schema, Some(2)).ok_or("there is a schema")?;
-    let reading = Judge::Reading(&extensions);
-    assert!(rt; reading.settings().is_none());
-    document.judge_all(alloc, &at_one)?;
+    document.judge_all(alloc, at_one)?;
     check_shown(&rt, &document, &["7:61 error level `resource.owner.team`"])?;
-    document.judge_all(alloc, &at_two)?;
+    document.judge_all(alloc, at_two)?;
     check_shown(&rt, &document, &[])?;
-    document.replace(alloc, &at_two, THREE)?;
-    document.judge_all(alloc, &reading)?;
+    document.replace(alloc, THREE)?;
+    document.judge_all(alloc, Judge::Reading(&extensions))?;
+    assert!(rt; document.judge().settings().is_none());
     check_shown(&rt, &document, &[])?;
     for placed in document.policies() {
         assert!(rt; placed.policy().verdict.is_none());
     }
-    document.judge_all(alloc, &judge)?;
+    let judge = judge_by(&schema, None).ok_or("there is a schema")?;
+    document.judge_all(alloc, judge)?;
     assert_eq!(rt; document.text(), THREE);
     check_shown(
         &rt,

@@ -126,11 +126,11 @@ fn fixes(rt: HostRuntime) -> Result<(), Fail> {
     for (front, rest, title, mended) in &FIXES {
         let text = format!(in alloc; "{front}{rest}")?;
         let wanted = format!(in alloc; "{front}{mended}")?;
-        let policy = check_policy(alloc, settings, text.as_str())?.ok_or("a policy")?;
+        let policy = check_policy(alloc, &settings, text.as_str())?.ok_or("a policy")?;
         let verdict = policy.verdict.as_ref().ok_or("a verdict")?;
         assert_eq!(rt; verdict.errors.len(), 1, "{text}");
         for error in &verdict.errors {
-            match fix_of(alloc, settings, &policy, error)? {
+            match fix_of(alloc, &settings, &policy, error)? {
                 Some(fix) => {
                     assert_eq!(rt; fix.title.as_str(), *title, "{text}");
                     let new = fixed(alloc, text.as_str(), &fix)?;

@@ -1,9 +1,10 @@
 // Hovers on parts of policies, and the declarations of the parts in the schema. A mark `^` stands before the byte that is asked
 // about.
-use crate::editor_tests::judged::{Check, OF_USERS, SCHEMA, VIEW, judge_by, text_at, unmarked};
+use crate::editor_tests::judged::{Check, OF_USERS, SCHEMA, VIEW, document_by, text_at, unmarked};
 use cedar_editor::definitions::definitions_at;
-use cedar_editor::documents::{Judge, PolicyDocument};
+use cedar_editor::documents::PolicyDocument;
 use cedar_editor::hovers::hover_at;
+use cedar_editor::judges::Judge;
 use cedar_editor::lines::Position;
 use cedar_editor::schemas::{SchemaDocument, SchemaText};
 use cedar_findings::syntaxes::Syntax;
@@ -112,15 +113,15 @@ fn hovers(rt: HostRuntime) -> Result<(), Fail> {
     let alloc = rt.alloc();
     let extensions = ExtensionSchemas::default(alloc);
     let schema = SchemaDocument::new(alloc, &extensions, Syntax::Cedar, SCHEMA)?;
-    let judge = judge_by(&schema, None).ok_or("there is a schema")?;
-    let own = schema.own();
+    let own = schema.texts().first().ok_or("a text")?;
     for (front, rest, part, wanted) in &HOVERS {
         let marked = format!(in alloc; "// é\n{front}{rest}")?;
         let (text, byte) = unmarked(alloc, marked.as_str())?;
-        let document = PolicyDocument::new(alloc, &judge, text.as_str())?;
+        let document = document_by(alloc, &schema, text.as_str())?;
         let placed = document.policy_at(byte).ok_or("a policy")?;
         let at = byte.saturating_sub(placed.start);
-        match hover_at(alloc, judge.settings(), own, placed.policy(), at)? {
+        let settings = document.judge().settings();
+        match hover_at(alloc, settings.as_ref(), own, placed.policy(), at)? {
             Some(hover) => {
                 let place = placed.place(hover.place);
                 assert_eq!(rt; text_at(text.as_str(), place), *part, "{marked}");
@@ -208,34 +209,31 @@ fn definitions(rt: HostRuntime) -> Result<(), Fail> {
     let alloc = rt.alloc();
     let extensions = ExtensionSchemas::default(alloc);
     let schema = SchemaDocument::new(alloc, &extensions, Syntax::Cedar, SCHEMA)?;
-    let judge = judge_by(&schema, None).ok_or("there is a schema")?;
-    let reading = Judge::Reading(&extensions);
-    let own = schema.own();
+    let own = schema.texts().first().ok_or("a text")?;
     for (front, rest, is_typed, wanted) in &DEFINITIONS {
         let marked = format!(in alloc; "// é\n{front}{rest}")?;
         let (text, byte) = unmarked(alloc, marked.as_str())?;
-        // (the two judges lend at different lifetimes)
-        let places = if *is_typed {
-            definitions_shown(alloc, &judge, own, text.as_str(), byte)?
+        let document = if *is_typed {
+            document_by(alloc, &schema, text.as_str())?
         } else {
-            definitions_shown(alloc, &reading, own, text.as_str(), byte)?
+            PolicyDocument::new(alloc, Judge::Reading(&extensions), text.as_str())?
         };
+        let places = definitions_shown(alloc, &document, own, byte)?;
         assert_eq!(rt; places.as_str(), *wanted, "{marked}");
     }
     Ok(())
 }
 
-/// The definitions at a byte of a text, each on a line.
+/// The definitions at a byte of a document, each on a line.
 fn definitions_shown(
     alloc: Global,
-    judge: &Judge<'_, Check>,
+    document: &PolicyDocument<'_, Check>,
     own: &SchemaText,
-    text: &str,
     byte: usize,
 ) -> Result<String, Fail> {
-    let document = PolicyDocument::new(alloc, judge, text)?;
+    let settings = document.judge().settings();
     let placed = document.policy_at(byte).ok_or("a policy")?;
     let at = byte.saturating_sub(placed.start);
-    let found = definitions_at(alloc, judge.settings(), own, placed.policy(), at)?;
+    let found = definitions_at(alloc, settings.as_ref(), own, placed.policy(), at)?;
     Ok(places_shown(alloc, own, found.as_slice())?)
 }

@@ -1,10 +1,10 @@
 // A schema, policies that are judged by it, and lines on these.
 use cedar_editor::diagnostics::{Diagnostic, policy_diagnostics};
-use cedar_editor::documents::{Judge, PolicyDocument};
+use cedar_editor::documents::PolicyDocument;
+use cedar_editor::judges::{Judge, SharedSettings};
 use cedar_editor::lines::Position;
 use cedar_editor::schemas::SchemaDocument;
 use cedar_types::base::{ArgumentCheck, Loc, ValidationMode};
-use cedar_verdicts::settings::Settings;
 use std::alloc::{AllocError, Global};
 use std::process::Abort;
 use std::test::Fail;
@@ -34,17 +34,26 @@ pub const VIEW: &str = r#"permit(principal, action == Action::"view", resource) 
 pub const OF_USERS: &str = "permit(principal is User, action, resource) when { ";
 
 /// The judge by a schema at this level in Strict, if the schema once had no fault.
-pub fn judge_by<'a>(
-    schema: &'a SchemaDocument<'_, Check>,
+pub fn judge_by<'e>(
+    schema: &SchemaDocument<'e, Check>,
     level: Option<u32>,
-) -> Option<Judge<'a, Check>> {
-    let validator = schema.validator()?;
-    Some(Judge::Settings(Settings {
+) -> Option<Judge<'e, Check>> {
+    let validator = schema.validator()?.clone().ok()?;
+    Some(Judge::Settings(SharedSettings {
         validator,
         mode: ValidationMode::Strict,
         level,
-        syntax: None,
     }))
+}
+
+/// A document of this text that is judged by a schema.
+pub fn document_by<'e>(
+    alloc: Global,
+    schema: &SchemaDocument<'e, Check>,
+    text: &str,
+) -> Result<PolicyDocument<'e, Check>, Fail> {
+    let judge = judge_by(schema, None).ok_or("there is a schema")?;
+    Ok(PolicyDocument::new(alloc, judge, text)?)
 }
 
 /// The text at a place.
@@ -76,9 +85,9 @@ pub fn unmarked(alloc: Global, text: &str) -> Result<(String, usize), AllocError
 
 /// The diagnostics of a document, each on a line: its position, its severity, its code, and the text at its place; and the
 /// position of the other place.
-pub fn shown(alloc: Global, document: &PolicyDocument) -> Result<String, AllocError> {
+pub fn shown(alloc: Global, document: &PolicyDocument<'_, Check>) -> Result<String, AllocError> {
     let mut lines = String::new(alloc);
-    for told in policy_diagnostics(alloc, document)? {
+    for told in policy_diagnostics(alloc, document.policies())? {
         push_told(&mut lines, document, &told)?;
     }
     Ok(lines)
@@ -86,7 +95,7 @@ pub fn shown(alloc: Global, document: &PolicyDocument) -> Result<String, AllocEr
 
 fn push_told(
     lines: &mut String,
-    document: &PolicyDocument,
+    document: &PolicyDocument<'_, Check>,
     told: &Diagnostic,
 ) -> Result<(), AllocError> {
     let Position { line, unit } = document.range(told.place).start;
@@ -103,7 +112,7 @@ fn push_told(
 /// Checks that the lines on a document are exactly these.
 pub fn check_shown(
     rt: &(impl Abort + AllocGlobal),
-    document: &PolicyDocument,
+    document: &PolicyDocument<'_, Check>,
     wanted: &[&str],
 ) -> Result<(), Fail> {
     let alloc = rt.alloc();

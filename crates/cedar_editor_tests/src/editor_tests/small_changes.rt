@@ -1,6 +1,7 @@
 // Small changes at each character of a text with faults: behind each, the document is that of the changed text.
 use crate::editor_tests::judged::{Check, shown};
-use cedar_editor::documents::{Judge, PolicyDocument};
+use cedar_editor::documents::PolicyDocument;
+use cedar_editor::judges::Judge;
 use cedar_types::base::{ExtensionSchemas, Loc};
 use std::alloc::{AllocError, Global};
 use std::test::Fail;
@@ -13,7 +14,7 @@ const TEXT: &str = "// é\r\npermit(principal, action, resource) when { (1\n\
 const INSERTED: [&str; 6] = ["", "\n", "\"", "//", "@", "permit("];
 
 /// The places of a document's policies, and the lines on them.
-fn state_of(alloc: Global, document: &PolicyDocument) -> Result<String, AllocError> {
+fn state_of(alloc: Global, document: &PolicyDocument<'_, Check>) -> Result<String, AllocError> {
     let mut state = shown(alloc, document)?;
     for placed in document.policies() {
         let place = Loc {
@@ -31,8 +32,7 @@ fn state_of(alloc: Global, document: &PolicyDocument) -> Result<String, AllocErr
 fn small_changes(rt: HostRuntime) -> Result<(), Fail> {
     let alloc = rt.alloc();
     let functions: ExtensionSchemas<Check> = ExtensionSchemas::default(alloc);
-    let judge = Judge::Reading(&functions);
-    let mut document = PolicyDocument::new(alloc, &judge, TEXT)?;
+    let mut document = PolicyDocument::new(alloc, Judge::Reading(&functions), TEXT)?;
     assert_eq!(rt; document.policies().len(), 3);
     let state = state_of(alloc, &document)?;
     for (start, c) in TEXT.char_indices() {
@@ -42,12 +42,12 @@ fn small_changes(rt: HostRuntime) -> Result<(), Fail> {
                 start,
                 end: start.saturating_add(size),
             };
-            document.change(alloc, &judge, place, inserted)?;
-            let fresh = PolicyDocument::new(alloc, &judge, document.text())?;
+            document.change(alloc, place, inserted)?;
+            let fresh = PolicyDocument::new(alloc, Judge::Reading(&functions), document.text())?;
             let wanted = state_of(alloc, &fresh)?;
             let found = state_of(alloc, &document)?;
             assert_eq!(rt; found.as_str(), wanted.as_str(), "{place:?} {inserted:?}");
-            document.replace(alloc, &judge, TEXT)?;
+            document.replace(alloc, TEXT)?;
             let found = state_of(alloc, &document)?;
             assert_eq!(rt; found.as_str(), state.as_str(), "{place:?} {inserted:?}");
         }
