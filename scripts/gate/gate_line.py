@@ -3,11 +3,13 @@
 
     gate_line.py begin WHAT                                   prints the columns that are known before the run
     gate_line.py row BEFORE SECONDS USED PASSED FAILED TIMES  prints the row
+    gate_line.py shares                                       prints the gate's share of each row of docs/gate.tsv
 
 WHAT is `gate` or `all`. BEFORE is what the first call printed. SECONDS are those of the run by the clock, and USED those of
 processors. TIMES is the file that scripts/gate/lanes.py wrote, with a line for each proof that was made. What was not seen is
 `?`. A row of another machine can be set beside this one by the seconds of `cedar_frames`, which are the same on each machine but
-for its speed.
+for its speed. The share is what the proofs of the gate's crates took that the row has (a row leaves out proofs that were kept): their
+number, and their minutes of processors, of the row's machine and of one on which `cedar_frames` takes 66 seconds.
 """
 import os
 import re
@@ -17,7 +19,8 @@ from pathlib import Path
 
 sys.path.insert(0, str(Path(__file__).resolve().parent.parent))
 import stamp  # noqa: E402
-from gate import times  # noqa: E402
+import unproved  # noqa: E402
+from gate import copies, times  # noqa: E402
 
 TOP = Path(__file__).resolve().parents[2]
 TABLE = TOP / "docs" / "gate.tsv"
@@ -36,6 +39,8 @@ COLUMNS = (
     "proofs, in minutes of rt ci: NAME=BEGUN-PROVED/OF PROCESSORS, where NAME+tests is the proof of the tests",
 )
 YARDSTICK = "cedar_frames"
+# Shares are scaled to a machine on which the yardstick takes so many seconds: that of the row 063a40b8.
+YARDSTICK_SECONDS = 66
 UNSEEN = stamp.UNSEEN
 
 
@@ -90,7 +95,20 @@ def rows_of(text):
     return found
 
 
+def share_of(row, crates):
+    """How many proofs of these crates a row has, and their minutes of processors, of its machine and scaled; None where unseen."""
+    used = [minutes[-1] for name, minutes in row["proofs"].items() if name.partition("+")[0] in crates]
+    if None in used or row[COLUMNS[8]] == UNSEEN:
+        return None
+    return len(used), sum(used), sum(used) * YARDSTICK_SECONDS / int(row[COLUMNS[8]])
+
+
 def main(words):
+    if words == ["shares"]:
+        for row in rows_of(TABLE.read_text(encoding="utf8")):
+            share = share_of(row, copies.proved_crates(unproved.USES))
+            print(row["commit"], row["gate or all"], "unseen" if share is None else "{} proofs, {:.0f} minutes of processors, {:.0f} scaled".format(*share))
+        return 0
     if len(words) == 2 and words[0] == "begin":
         print("\t".join(known_before(words[1])))
         return 0

@@ -66,6 +66,9 @@ def lines():
     yield "a run that proved nothing", times.read("/no/such/file") == []
     read = gate_line.rows_of(table(ROW))
     yield "a row that is read", len(read) == 1 and read[0]["proofs"] == READ and read[0]["minutes by the clock"] == "12"
+    yield "the share of two crates", gate_line.share_of(read[0], ["low", "high", "new"]) == (3, 5.3, 5.3)
+    [older] = gate_line.rows_of(table(OLDER))
+    yield "the share of a proof that was not seen", gate_line.share_of(older, ["low", "top"]) is None and gate_line.share_of({**read[0], gate_line.COLUMNS[8]: "33"}, ["low"]) == (1, 2.5, 5)
     yield "rows of another form", is_refused(ROW) and is_refused("") and is_refused(table(ROW + "\tmore"))
     yield "docs/gate.tsv", gate_line.rows_of(gate_line.TABLE.read_text()) != []
     yield "memory", gate_line.gigabytes("MemFree: 1 kB\nMemAvailable:   22000000 kB\n") == "22" and gate_line.gigabytes("") == "?"
