@@ -2,6 +2,7 @@
 use crate::schema_files::{add_schemas_in, is_folder, schema_syntax};
 use crate::workspaces::Workspace;
 use cedar_findings::syntaxes::Syntax;
+use cedar_types::base::ArgumentCheck;
 use std::alloc::{AllocError, Global};
 use std::collections::BTreeSet;
 use std::rt::Files;
@@ -25,7 +26,7 @@ impl Home {
     }
 }
 
-impl Workspace<'_> {
+impl<C: ArgumentCheck> Workspace<'_, C> {
     /// The home of the schema of a file: the one that the settings name, else the nearest one.
     pub fn home_of<R: Files + AllocGlobal + Clone + Drop>(
         &self,

@@ -21,7 +21,7 @@ mod written;
 use arguments::{Asked, asked_in};
 use cedar_extensions::checks::Constructor;
 use cedar_extensions::functions::{Checks, functions, overloaded_types};
-use cedar_types::base::ExtensionSchemas;
+use cedar_types::base::{ArgumentCheck, ExtensionSchemas};
 use serving::Server;
 use sessions::Session;
 use std::io::Write;
@@ -103,7 +103,7 @@ fn run<E: Write>(rt: &HostRuntime, err: &mut E) -> ExitCode {
 
 /// Serves over standard input and output with these extension functions. The answer is the exit
 /// status.
-fn serve(rt: &HostRuntime, extensions: &ExtensionSchemas) -> io::Result<u8> {
+fn serve<C: ArgumentCheck>(rt: &HostRuntime, extensions: &ExtensionSchemas<C>) -> io::Result<u8> {
     let alloc = rt.alloc();
     // the session lies on the heap, because the prover does not cover the drop of a variable of so
     // many parts

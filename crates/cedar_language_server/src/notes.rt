@@ -7,6 +7,7 @@ use crate::schema_files::schema_syntax;
 use crate::uris::path_of;
 use crate::workspaces::Workspace;
 use cedar_editor::edits::Edit;
+use cedar_types::base::ArgumentCheck;
 use serde_json::Value;
 use std::alloc::{AllocError, Global};
 use std::rt::Files;
@@ -14,7 +15,7 @@ use std::rt::Files;
 /// The key of the server's settings among those of the editor.
 const SECTION: &str = "cedar";
 
-impl Workspace<'_> {
+impl<C: ArgumentCheck> Workspace<'_, C> {
     /// Takes what the editor says at the beginning: its folder, whether it watches files, and its options.
     pub fn begin(&mut self, call: Call<'_>) -> Result<(), AllocError> {
         let root = match text_at(call.about, "rootUri") {

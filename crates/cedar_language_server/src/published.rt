@@ -5,6 +5,7 @@ use crate::written::{Origin, Written};
 use cedar_editor::diagnostics::{Diagnostic, policy_diagnostics, schema_diagnostics};
 use cedar_editor::schemas::SchemaText;
 use cedar_findings::json::JsonWriter;
+use cedar_types::base::ArgumentCheck;
 use std::alloc::{AllocError, Global};
 
 /// The request that the editor tells the server of each schema file that changes on disk.
@@ -27,11 +28,11 @@ const UNREAD_SCHEMA: &str =
     "a file of the schema cannot be read: policies are read, and not checked";
 
 /// The notification of the diagnostics of a document of policies, with a note if the schema is missing or has a fault.
-pub fn published(
+pub fn published<C: ArgumentCheck>(
     alloc: Global,
     uri: &str,
-    document: &Document<'_>,
-    schema: Option<&Schema<'_>>,
+    document: &Document<'_, C>,
+    schema: Option<&Schema<'_, C>>,
 ) -> Result<String, AllocError> {
     let policies = &document.policies;
     let origin = Origin {
@@ -50,7 +51,7 @@ pub fn published(
 }
 
 /// The note on the schema by which policies are checked; empty if it has no fault.
-fn note_on(schema: Option<&Schema<'_>>) -> &'static str {
+fn note_on<C: ArgumentCheck>(schema: Option<&Schema<'_, C>>) -> &'static str {
     let Some(schema) = schema else {
         return NO_SCHEMA;
     };

@@ -13,7 +13,7 @@ use cedar_editor::hovers::hover_at;
 use cedar_editor::schemas::SchemaText;
 use cedar_editor::symbols::{policy_symbols, schema_symbols};
 use cedar_findings::findings::{Finding, Severity};
-use cedar_types::base::Loc;
+use cedar_types::base::{ArgumentCheck, Loc};
 use std::alloc::AllocError;
 
 /// The outcome of a question: a value of JSON, or a refusal.
@@ -44,17 +44,17 @@ impl Question {
 }
 
 /// A policy of a document, with the byte that is asked about.
-#[derive(Clone, Copy)]
-struct Asked<'a> {
+#[derive(Drop)]
+struct Asked<'a, 'e, C: ArgumentCheck> {
     uri: &'a str,
-    document: &'a Document<'a>,
+    document: &'a Document<'e, C>,
     placed: &'a PlacedPolicy,
     /// The byte that is asked about, in the policy's own text.
     byte: usize,
 }
 
-impl<'a> Asked<'a> {
-    fn origin(self) -> Origin<'a> {
+impl<'a, C: ArgumentCheck> Asked<'a, '_, C> {
+    fn origin(&self) -> Origin<'a> {
         Origin {
             uri: self.uri,
             text: self.document.policies.text(),
@@ -63,7 +63,7 @@ impl<'a> Asked<'a> {
     }
 }
 
-impl Workspace<'_> {
+impl<'e, C: ArgumentCheck> Workspace<'e, C> {
     /// The outcome of a question about a document of policies or about a schema.
     pub fn answer(&self, question: Question, call: Call<'_>) -> Outcome {
         let Some(uri) = call.uri() else {
@@ -93,12 +93,12 @@ impl Workspace<'_> {
             byte: byte.saturating_sub(placed.start),
         };
         match question {
-            Question::Hover => self.hover(asked),
-            Question::Completion => self.completion(asked),
-            Question::Definition => self.definition(asked),
+            Question::Hover => self.hover(&asked),
+            Question::Completion => self.completion(&asked),
+            Question::Definition => self.definition(&asked),
             Question::Symbols | Question::Fixes => {
                 let end = call.range().map(|range| document.policies.byte(range.end));
-                self.fixes(asked, byte, end.unwrap_or(byte))
+                self.fixes(&asked, byte, end.unwrap_or(byte))
             }
         }
     }
@@ -128,7 +128,7 @@ impl Workspace<'_> {
         Ok(Ok(String::from_str(self.alloc, nothing)?))
     }
 
-    fn symbols(&self, uri: &str, document: &Document<'_>) -> Outcome {
+    fn symbols(&self, uri: &str, document: &Document<'_, C>) -> Outcome {
         let symbols = policy_symbols(self.alloc, document.policies.policies())?;
         let origin = Origin {
             uri,
@@ -140,7 +140,7 @@ impl Workspace<'_> {
         Ok(Ok(written.out))
     }
 
-    fn hover(&self, asked: Asked<'_>) -> Outcome {
+    fn hover(&self, asked: &Asked<'_, 'e, C>) -> Outcome {
         let Some(own) = self.declaring_text(asked)? else {
             return self.nothing(Question::Hover);
         };
@@ -157,7 +157,7 @@ impl Workspace<'_> {
     }
 
     /// The text of the schema that declares the part at a byte of a policy, else the first one.
-    fn declaring_text(&self, asked: Asked<'_>) -> Result<Option<&SchemaText>, AllocError> {
+    fn declaring_text(&self, asked: &Asked<'_, 'e, C>) -> Result<Option<&SchemaText>, AllocError> {
         let Some(schema) = self.schema_at(asked.document.schema.as_ref()) else {
             return Ok(None);
         };
@@ -173,7 +173,7 @@ impl Workspace<'_> {
         Ok(texts.first())
     }
 
-    fn completion(&self, asked: Asked<'_>) -> Outcome {
+    fn completion(&self, asked: &Asked<'_, 'e, C>) -> Outcome {
         let Some(settings) = asked.document.policies.judge().settings() else {
             return self.nothing(Question::Completion);
         };
@@ -184,7 +184,7 @@ impl Workspace<'_> {
         Ok(Ok(written.out))
     }
 
-    fn definition(&self, asked: Asked<'_>) -> Outcome {
+    fn definition(&self, asked: &Asked<'_, 'e, C>) -> Outcome {
         let Some(schema) = self.schema_at(asked.document.schema.as_ref()) else {
             return self.nothing(Question::Definition);
         };
@@ -201,7 +201,7 @@ impl Workspace<'_> {
     fn add_definitions(
         &self,
         written: &mut Written,
-        asked: Asked<'_>,
+        asked: &Asked<'_, 'e, C>,
         path: &str,
         own: &SchemaText,
     ) -> Result<(), AllocError> {
@@ -216,7 +216,7 @@ impl Workspace<'_> {
     }
 
     /// The fixes of the errors of one policy that touch a range, from one byte of its document to another.
-    fn fixes(&self, asked: Asked<'_>, start: usize, end: usize) -> Outcome {
+    fn fixes(&self, asked: &Asked<'_, 'e, C>, start: usize, end: usize) -> Outcome {
         let Some(settings) = asked.document.policies.judge().settings() else {
             return self.nothing(Question::Fixes);
         };
@@ -242,7 +242,7 @@ impl Workspace<'_> {
     fn add_fix(
         &self,
         written: &mut Written,
-        asked: Asked<'_>,
+        asked: &Asked<'_, 'e, C>,
         finding: &Finding,
         fix: &Fix,
     ) -> Result<(), AllocError> {

@@ -1,10 +1,11 @@
 // The schemas by which policies are checked: each is read again where it may have changed, and its documents are judged again.
 use crate::homes::Home;
 use crate::schema_files::{schema_syntax, text_of_file};
-use crate::workspaces::{Check, Schema, Workspace};
+use crate::workspaces::{Schema, Workspace};
 use cedar_editor::judges::{Judge, SharedSettings};
 use cedar_editor::schemas::{SchemaDocument, SchemaSource};
 use cedar_findings::syntaxes::Syntax;
+use cedar_types::base::ArgumentCheck;
 use std::alloc::{AllocError, Global};
 use std::collections::{BTreeMap, BTreeSet};
 use std::rc::Rc;
@@ -17,7 +18,7 @@ struct Texts {
     is_unread: bool,
 }
 
-impl<'e> Workspace<'e> {
+impl<'e, C: ArgumentCheck> Workspace<'e, C> {
     /// Finds and reads the schema of each open document again. Policies whose schema or options have changed are judged again,
     /// and a schema of no open document counts no longer.
     pub fn refresh<R: Files + AllocGlobal + Clone + Drop>(
@@ -208,7 +209,7 @@ impl<'e> Workspace<'e> {
     }
 
     /// The judge by the schema with this key and by the options; of reading alone if there is no schema without a fault.
-    pub fn judge_by(&self, key: Option<&String>) -> Result<Judge<'e, Check>, AllocError> {
+    pub fn judge_by(&self, key: Option<&String>) -> Result<Judge<'e, C>, AllocError> {
         let validator = match self.schema_at(key) {
             Some(schema) if !schema.is_unread => schema.document.validator(),
             _ => None,
@@ -225,7 +226,7 @@ impl<'e> Workspace<'e> {
 }
 
 /// Whether a schema has these files, with these texts.
-fn is_as_read(schema: &Schema<'_>, paths: &Vec<String>, read: &Texts) -> bool {
+fn is_as_read<C: ArgumentCheck>(schema: &Schema<'_, C>, paths: &Vec<String>, read: &Texts) -> bool {
     if schema.is_unread != read.is_unread || schema.paths != *paths {
         return false;
     }
@@ -238,7 +239,7 @@ fn is_as_read(schema: &Schema<'_>, paths: &Vec<String>, read: &Texts) -> bool {
 }
 
 /// Whether two judges say the same, because they have one validator and the same options.
-fn are_alike(one: &Judge<'_, Check>, two: &Judge<'_, Check>) -> bool {
+fn are_alike<'e, C>(one: &Judge<'e, C>, two: &Judge<'e, C>) -> bool {
     match (one, two) {
         (Judge::Reading(_), Judge::Reading(_)) => true,
         (Judge::Settings(one), Judge::Settings(two)) => {

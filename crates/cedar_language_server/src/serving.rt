@@ -3,6 +3,7 @@ use crate::messages::{Call, Id, Message, message_of};
 use crate::replies::{Refusal, Reply};
 use crate::sessions::Session;
 use cedar_frames::{Broken, Incoming, Taken, framed};
+use cedar_types::base::ArgumentCheck;
 use serde_json::Value;
 use std::alloc::{AllocError, Global};
 use std::io::{Read, Write};
@@ -30,7 +31,11 @@ pub struct Server<'r, R, O, E> {
 
 impl<R: Files + AllocGlobal + Clone + Drop, O: Write, E: Write> Server<'_, R, O, E> {
     /// Serves until `exit` or the end of the input. The answer is the exit status: 0 if `exit` comes after `shutdown`, else 1.
-    pub fn serve<I: Read>(&mut self, session: &mut Session<'_>, input: &mut I) -> io::Result<u8> {
+    pub fn serve<C: ArgumentCheck, I: Read>(
+        &mut self,
+        session: &mut Session<'_, C>,
+        input: &mut I,
+    ) -> io::Result<u8> {
         let alloc = self.rt.alloc();
         let mut incoming = Incoming::new(alloc);
         let mut buffer = vec![in alloc; 0u8; READ_AHEAD]?;
@@ -49,9 +54,9 @@ impl<R: Files + AllocGlobal + Clone + Drop, O: Write, E: Write> Server<'_, R, O,
     }
 
     /// Takes each frame that has come whole.
-    fn take_all(
+    fn take_all<C: ArgumentCheck>(
         &mut self,
-        session: &mut Session<'_>,
+        session: &mut Session<'_, C>,
         alloc: Global,
         incoming: &mut Incoming,
     ) -> io::Result<Step> {
@@ -69,7 +74,12 @@ impl<R: Files + AllocGlobal + Clone + Drop, O: Write, E: Write> Server<'_, R, O,
     }
 
     /// Takes a message, does as it asks, and sends a reply if it is a request.
-    fn take(&mut self, session: &mut Session<'_>, alloc: Global, bytes: &[u8]) -> io::Result<Step> {
+    fn take<C: ArgumentCheck>(
+        &mut self,
+        session: &mut Session<'_, C>,
+        alloc: Global,
+        bytes: &[u8],
+    ) -> io::Result<Step> {
         let Ok(text) = str::from_utf8(bytes) else {
             return self.refuse(alloc, Refusal::NotJson);
         };
@@ -92,7 +102,12 @@ impl<R: Files + AllocGlobal + Clone + Drop, O: Write, E: Write> Server<'_, R, O,
     }
 
     /// Takes a notification, and sends the notifications that it leads to. If memory is refused, the log says so.
-    fn note(&mut self, session: &mut Session<'_>, alloc: Global, call: Call<'_>) -> io::Result<()> {
+    fn note<C: ArgumentCheck>(
+        &mut self,
+        session: &mut Session<'_, C>,
+        alloc: Global,
+        call: Call<'_>,
+    ) -> io::Result<()> {
         let notes = match session.note(self.rt, call) {
             Ok(notes) => notes,
             Err(error) => return self.log(error),

@@ -5,7 +5,7 @@ use crate::messages::{Call, Message};
 use crate::questions::Question;
 use crate::replies::{CAPABILITIES, Refusal, Reply};
 use crate::workspaces::Workspace;
-use cedar_types::base::ExtensionSchemas;
+use cedar_types::base::{ArgumentCheck, ExtensionSchemas};
 use std::alloc::{AllocError, Global};
 use std::rt::Files;
 
@@ -19,14 +19,14 @@ pub enum Phase {
 
 /// The state of the server between messages.
 #[derive(Drop)]
-pub struct Session<'e> {
+pub struct Session<'e, C: ArgumentCheck> {
     phase: Phase,
-    workspace: Workspace<'e>,
+    workspace: Workspace<'e, C>,
 }
 
-impl<'e> Session<'e> {
+impl<'e, C: ArgumentCheck> Session<'e, C> {
     /// A session before `initialize`.
-    pub fn new(alloc: Global, extensions: &'e ExtensionSchemas) -> Session<'e> {
+    pub fn new(alloc: Global, extensions: &'e ExtensionSchemas<C>) -> Session<'e, C> {
         Session {
             phase: Phase::Fresh,
             workspace: Workspace::new(alloc, extensions),

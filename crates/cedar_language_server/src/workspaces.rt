@@ -9,14 +9,11 @@ use std::alloc::{AllocError, Global};
 use std::collections::BTreeMap;
 use std::rt::Files;
 
-/// The check of the arguments of an extension function.
-pub type Check = Box<dyn ArgumentCheck>;
-
 /// A document of policies that is open in the editor. Its judge is that of its schema.
 #[derive(Drop)]
-pub struct Document<'e> {
+pub struct Document<'e, C: ArgumentCheck> {
     pub version: Option<u64>,
-    pub policies: PolicyDocument<'e, Check>,
+    pub policies: PolicyDocument<'e, C>,
     pub path: Option<String>,
     /// The key of the schema by which the document is checked.
     pub schema: Option<String>,
@@ -38,18 +35,18 @@ pub struct OpenSchema {
 
 /// A schema that policies are checked by, or that is open: its files, and their texts in the same order.
 #[derive(Drop)]
-pub struct Schema<'e> {
+pub struct Schema<'e, C> {
     pub paths: Vec<String>,
     /// A file of the schema cannot be read, so that nothing is checked by it.
     pub is_unread: bool,
-    pub document: SchemaDocument<'e, Check>,
+    pub document: SchemaDocument<'e, C>,
 }
 
 /// The open documents, and the schemas by which they are checked.
 #[derive(Drop)]
-pub struct Workspace<'e> {
+pub struct Workspace<'e, C: ArgumentCheck> {
     pub alloc: Global,
-    pub extensions: &'e ExtensionSchemas<Check>,
+    pub extensions: &'e ExtensionSchemas<C>,
     /// The options that the editor gave at the beginning.
     pub first_options: Options,
     pub options: Options,
@@ -60,16 +57,16 @@ pub struct Workspace<'e> {
     /// Messages to the editor that wait for the next notification.
     pub waiting: Vec<String>,
     /// The documents by their URIs.
-    pub documents: BTreeMap<String, Document<'e>>,
+    pub documents: BTreeMap<String, Document<'e, C>>,
     /// The open schema files by their paths.
     pub open_schemas: BTreeMap<String, OpenSchema>,
     /// The schemas by their keys.
-    pub schemas: BTreeMap<String, Schema<'e>>,
+    pub schemas: BTreeMap<String, Schema<'e, C>>,
 }
 
-impl<'e> Workspace<'e> {
+impl<'e, C: ArgumentCheck> Workspace<'e, C> {
     /// A workspace in which nothing is open.
-    pub fn new(alloc: Global, extensions: &'e ExtensionSchemas<Check>) -> Workspace<'e> {
+    pub fn new(alloc: Global, extensions: &'e ExtensionSchemas<C>) -> Workspace<'e, C> {
         Workspace {
             alloc,
             extensions,
@@ -85,17 +82,17 @@ impl<'e> Workspace<'e> {
     }
 
     /// The document of policies with this URI, if it is open.
-    pub fn document(&self, uri: &str) -> Option<&Document<'e>> {
+    pub fn document(&self, uri: &str) -> Option<&Document<'e, C>> {
         self.documents.get(uri)
     }
 
     /// The schema by which a document is checked.
-    pub fn schema_of(&self, document: &Document<'e>) -> Option<&Schema<'e>> {
+    pub fn schema_of(&self, document: &Document<'e, C>) -> Option<&Schema<'e, C>> {
         self.schema_at(document.schema.as_ref())
     }
 
     /// The schema with this key, if there is a key.
-    pub fn schema_at(&self, key: Option<&String>) -> Option<&Schema<'e>> {
+    pub fn schema_at(&self, key: Option<&String>) -> Option<&Schema<'e, C>> {
         self.schemas.get(key?.as_str())
     }
 
