@@ -15,8 +15,15 @@ LAWS = {
     "laws_of_policies": (f"{TYPECHECK}/composition.rt passing_is_safe", f"{LEVELS}/promises.rt validations_are_kept", f"{TYPECHECK}/laws.rt examples_of_promises"),
     "laws_of_slices": (f"{LEVELS}/promises.rt passing_needs_slice_alone", f"{LEVELS}/slices.rt slice_soundness targets_are_reached slices_hold"),
     "laws_of_types": (f"{TYPECHECK}/laws.rt type_soundness premises_are_met",),
-    "laws_of_copies": (f"{LEVELS}/slices.rt copies_need_slice_alone", f"{LEVELS}/promises.rt passing_copy_needs_slice_alone"),
+    "laws_of_copies": (
+        f"{TYPECHECK}/typed_copies.rt copies_mean_the_same conditions_mean_the_same", f"{LEVELS}/slices.rt copies_need_slice_alone",
+        f"{LEVELS}/promises.rt passing_copy_needs_slice_alone",
+    ),
     "laws_of_nodes": ("cedar_node_types/src/lib.rt nodes_have_types reached_nodes_fit condition_types_hold",),
+    "laws_of_modes": (
+        f"{TYPECHECK}/refinement.rt strict_is_kept strict_passes_in_permissive permissive_is_kept_in_partial", f"{LEVELS}/laws.rt strict_levels_are_kept",
+    ),
+    "laws_of_environments": (f"{TYPECHECK}/composition.rt own_environment environments_cover impossible_is_never_true failures_have_errors",),
     "laws_of_responses": ("cedar_host/src/responses.rt responses_need_slice_alone nothing_else_decides examples_of_responses",),
 }
 
