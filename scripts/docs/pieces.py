@@ -10,6 +10,9 @@ PIECES = {
     "tour_schema": ("cedar", "examples/tour/photos.cedarschema"),
     "tour_policies": ("cedar", "examples/tour/share.cedar"),
     "neovim_session": ("text", "examples/editors/neovim.txt"),
+    "texts_host": ("rust", "crates/cedar_verdicts_tests/src/verdicts_tests/said.rt", "schema_of", "verdicts_shown", "all_shown", "push_said"),
+    "rounds_host": ("rust", f"{SAMPLES}/rounds.rt", "load"),
+    "own_function": ("rust", "crates/cedar_fixtures/src/tables.rt", "ip"),
     "first_host": ("rust", f"{SAMPLES}/example.rt", "policy", "policies", "run"),
     "store_host": ("rust", f"{SAMPLES}/store.rt", "accepted", "let_in", "serve"),
 }
