@@ -2,8 +2,8 @@
 """Tries the language server as editors use it: scripts/editor_cases.py [--record] [PROGRAM].
 
 PROGRAM is cedar_language_server, by default as it is built without a proof. A client sends messages in each phase, frames that
-no editor sends, texts with characters of one to four bytes, edits of ranges, settings, schemas of several files, 10,000 changes, and
-random steps of an editor and of the disk (gate/editor_steps.py). Each editor that the machine has is
+no editor sends, texts with characters of one to four bytes, edits of ranges, changes that wait, settings, schemas of several files,
+10,000 changes, and random steps of an editor and of the disk (gate/editor_steps.py). Each editor that the machine has is
 set up by the blocks of docs/EDITORS.md (gate/editors.py), and does what a person does, by a session of examples/editors. What
 Neovim sees must be examples/editors/neovim.txt, which --record writes, and docs/EDITORS.md shows. An editor that is missing is skipped, which is said.
 The last line counts what went well and what did not.
@@ -18,7 +18,7 @@ from pathlib import Path
 
 import unproved
 from gate import editor_steps, editors
-from gate.editor_client import Client, NoAnswer, document, note, position, request
+from gate.editor_client import Client, NoAnswer, document, frame, note, position, request
 
 SECONDS = 600
 # Codes of JSON-RPC and of the protocol.
@@ -194,6 +194,36 @@ def changes(counts, program, room):
         counts.want("the end behind 10,000 changes", (status := client.end()) == 0, status)
 
 
+def typed(uri, character, letter, version):
+    """The change that writes a letter into the first line."""
+    place = {"line": 0, "character": character}
+    return note("textDocument/didChange", {"textDocument": {"uri": uri, "version": version}, "contentChanges": [{"range": {"start": place, "end": place}, "text": letter}]})
+
+
+def together(counts, program, room):
+    """Changes that come at once are taken together: each document is told once, and a question behind them is answered by what they make."""
+    folder = room / "together"
+    folder.mkdir()
+    (folder / "a.cedarschema").write_text(SCHEMA)
+    schema, uri, other = (f"file://{folder}/{it}" for it in ("a.cedarschema", "p.cedar", "q.cedar"))
+    text = "permit(principal, action, resource) when { principal. == principal.nameless };"
+    with Client(program) as client:
+        client.start()
+        counts.want("a document before its changes", len(client.open(uri, text)) == 1)
+        client.open(schema, SCHEMA)
+        sent = [typed(uri, 53 + at, letter, at + 2) for at, letter in enumerate("nameless")]
+        sent += [typed(schema, 20 + at, letter, at + 2) for at, letter in enumerate("less")]
+        sent += [note("textDocument/didOpen", document(other, text)), note("textDocument/didClose", {"textDocument": {"uri": other}})]
+        client.raw(b"".join(map(frame, [*sent, request(99, "textDocument/hover", position(uri, 0, 60))])))
+        told = {}
+        while (message := client.read()).get("id") != 99:
+            told.setdefault(message["params"]["uri"], []).append((message["params"].get("version"), message["params"]["diagnostics"]))
+        counts.want("changes that come at once", told == {uri: [(9, [])], schema: [(5, [])], other: [(None, [])]}, told)
+        hover = message["result"] or {}
+        counts.want("a question behind them", "principal.nameless: String" in str(hover.get("contents")), hover)
+        counts.want("the end behind changes at once", (status := client.end()) == 0, status)
+
+
 def command_line(counts, program, room):
     """A copy under any name on the PATH starts, and answers its words."""
     home = room / "bin"
@@ -303,7 +333,7 @@ def main(words):
     counts = Counts()
     with tempfile.TemporaryDirectory(prefix="editors-") as held:
         room = Path(held).resolve()
-        of_server = ((phases,), (ends,), (frames,), (command_line, room), (settings, room), (files, room), (editor_steps.steps, room), (positions, room),
+        of_server = ((phases,), (ends,), (frames,), (command_line, room), (settings, room), (files, room), (editor_steps.steps, room), (positions, room), (together, room),
                      (changes, room), (editors.neovim, room, is_recorded), (editors.emacs, room))
         parts = [(each, program, *more) for each, *more in of_server] + [(editors.vim, room), (editors.vscode,)]
         for each, *given in parts:

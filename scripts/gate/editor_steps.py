@@ -3,6 +3,7 @@
 
 Two folders have schemas of several files, in Cedar's syntax and in JSON, and one of them a folder below it. Policies and schemas are
 opened, changed, saved and closed; schema files are written, taken away, and replaced by folders, devices and locks; settings change.
+Some steps are several of these, of which the messages are sent at once.
 Behind each step the diagnostics that the editor was told last must be those of a server that starts then. Where a schema has a fault,
 they must be those of its last texts without one, behind a note that says so. For editor_cases.py, or alone.
 """
@@ -15,7 +16,7 @@ import tempfile
 from pathlib import Path
 
 sys.path.insert(0, str(Path(__file__).resolve().parents[1]))
-from gate.editor_client import Client, document
+from gate.editor_client import Client, document, frame
 
 STEPS, SEED = 300, 1
 FAULTY = "the schema has a fault: policies are checked by the last one without"
@@ -50,7 +51,21 @@ class Told(Client):
 
     def __init__(self, program):
         super().__init__(program)
-        self.shown = {}
+        self.shown, self.held = {}, None
+
+    def send(self, message):
+        if self.held is None:
+            super().send(message)
+        else:
+            self.held += frame(message)
+
+    def at_once(self, sends):
+        """What a function answers, whose messages are sent at once."""
+        self.held = b""
+        found = sends()
+        sent, self.held = self.held, None
+        self.raw(sent)
+        return found
 
     def read(self, *given):
         message = super().read(*given)
@@ -256,7 +271,8 @@ def steps(counts, program, folder, number=STEPS, seed=SEED):
     with Told(program) as client:
         client.start()
         for version in range(2, number + 2):
-            kind = step(room, client, version)
+            number_at_once = room.chance.choice((1, 1, 1, 2, 5))
+            kind = client.at_once(lambda: [step(room, client, version) for _ in range(number_at_once)])
             shown = client.settled()
             room.remember()
             wanted = room.wanted(fresh(room))

@@ -6,20 +6,24 @@ sessions on files, by a schema of 300 actions that share their types. A session 
 figure of a keystroke is that of one more change, which writes one character more into the condition of a policy in the middle,
 about one action or about all. The editor sends each change as a range or as the whole text. Hover, completion and definition are
 asked once more each. Large changes are measured too: a whole text in which each policy is another, a notification of many ranges, and
-a letter among policies that all have a fault and stand on one line. The memory of 10,000 changes is held by scripts/editor_cases.py.
-It needs valgrind, and is no part of the gate.
+a letter among policies that all have a fault and stand on one line. Behind each message stands a question, because changes that wait
+are taken together; the seconds of a hover are measured that stands behind many letters. The memory of 10,000 changes is held by
+scripts/editor_cases.py. It needs valgrind, and is no part of the gate.
 """
 import subprocess
 import sys
+import time
 from functools import lru_cache
 
 from harness import FIGURE, Row, main, valgrind
-from gate.editor_client import document, frame, note, position, request
+from gate.editor_client import Client, document, frame, note, position, request
 
 ACTIONS = 300
 TAIL = " && resource.size > 123456789012345"
 # Changes of a session, of which the figure is one.
 CHANGES = 12
+# Letters that wait before a hover.
+LETTERS = 20
 SCHEMA = """entity Group;
 entity User in [Group] { name: String, age: Long, vip?: Bool, team: Group };
 entity Doc { owner: User, isPublic: Bool, size: Long, label?: String };
@@ -60,8 +64,9 @@ def session(bench, policies, middle, changes=0, by_ranges=True, asked=()):
 
 
 def instructions(bench, sent):
-    """The instructions of a session in which these messages are sent, and then those that end it."""
-    given = b"".join(map(frame, [*sent, request(10, "shutdown"), note("exit")]))
+    """The instructions of a session in which these messages are sent, a question behind each, and then those that end it."""
+    settled = request(9, "x/settled")
+    given = b"".join(frame(it) for message in (*sent, request(10, "shutdown")) for it in (message, settled)) + frame(note("exit"))
     below = valgrind("cachegrind", "--cache-sim=no", "--cachegrind-out-file=/dev/null")
     done = subprocess.run([*below, bench.program], cwd=bench.room, input=given, capture_output=True)
     if done.returncode:
@@ -133,8 +138,32 @@ def letter(size):
     return [inserted(0, size // 2 * len(faulty(1)) + 20, "x")]
 
 
+def hover_behind(name, before, letter):
+    """The seconds until a hover is answered that comes with twenty letters before it, which are written into a file behind a text."""
+    def figure(bench, size):
+        texts = {"s.cedarschema": SCHEMA, "p.cedar": "".join(map(wide, range(size)))}
+        bench.write("s.cedarschema", SCHEMA)
+        uris = {it: f"file://{bench.room}/{it}" for it in texts}
+        line, own = next((at, it) for at, it in enumerate(texts[name].splitlines()) if before in it)
+        start = own.index(before) + len(before)
+        typed = [edited(uris[name], [inserted(line, start + count, letter)]) for count in range(LETTERS)]
+        with Client(bench.program) as client:
+            client.start()
+            for it, written in texts.items():
+                client.open(uris[it], written)
+            begun = time.monotonic()
+            client.raw(b"".join(map(frame, [*typed, request(99, "textDocument/hover", position(uris["p.cedar"], 2, 10))])))
+            while client.read().get("id") != 99:
+                pass
+            return round(time.monotonic() - begun, 2)
+    return figure
+
+
 LINE = "{what}, in a document of {size} policies by 300 actions of shared types: {figure} million instructions"
+WAITS = "{what}, with a document of {size} policies of all of 300 actions: {figure} s"
 ROWS = (
+    Row("a hover behind twenty letters in the schema", (500,), hover_behind("s.cedarschema", "label", "a"), WAITS, most=1),
+    Row("a hover behind twenty letters in a policy", (500,), hover_behind("p.cedar", "> 10", "0"), WAITS, most=1),
     Row("a schema is read and a document opened", (10, 1000), lambda bench, size: millions(opened(bench, size, policy)), LINE),
     Row("a keystroke in a policy of one action, sent as a range", (10, 1000), keystroke(policy, True), LINE, most=2.5),
     Row("a keystroke in a policy of one action, sent as the whole text", (10, 1000), keystroke(policy, False), LINE),

@@ -15,6 +15,7 @@ mod schemas_in_use;
 mod serving;
 mod sessions;
 mod uris;
+mod waiting;
 mod workspaces;
 mod written;
 

@@ -35,31 +35,31 @@ impl<C: ArgumentCheck> Workspace<'_, C> {
         Ok(())
     }
 
-    /// Takes a notification, and answers the messages that it leads to.
+    /// Takes a notification. The messages that it leads to wait until `tell`.
     pub fn note<R: Files + AllocGlobal + Clone + Drop>(
         &mut self,
         rt: &R,
         call: Call<'_>,
-    ) -> Result<Vec<String>, AllocError> {
-        let mut told = Vec::new(self.alloc);
+    ) -> Result<(), AllocError> {
         match call.method {
-            "initialized" => self.note_begun(rt, &mut told)?,
-            "workspace/didChangeWatchedFiles" => self.refresh(rt)?,
-            "workspace/didChangeConfiguration" => self.note_options(rt, call)?,
-            _ => self.note_document(rt, call, &mut told)?,
+            "initialized" => self.note_begun(rt),
+            "workspace/didChangeWatchedFiles" => {
+                self.is_stale = true;
+                Ok(())
+            }
+            "workspace/didChangeConfiguration" => self.note_options(rt, call),
+            _ => self.note_document(call),
         }
-        self.tell(&mut told)?;
-        Ok(told)
     }
 
     /// Asks an editor that watches files to watch schemas, and says which schema of the options cannot be read.
     fn note_begun<R: Files + AllocGlobal + Clone + Drop>(
         &mut self,
         rt: &R,
-        told: &mut Vec<String>,
     ) -> Result<(), AllocError> {
         if self.watches {
-            told.push(String::from_str(self.alloc, REGISTRATION)?)?;
+            self.waiting
+                .push(String::from_str(self.alloc, REGISTRATION)?)?;
         }
         self.say_unread(rt)
     }
@@ -73,10 +73,10 @@ impl<C: ArgumentCheck> Workspace<'_, C> {
         let Some(settings) = call.member("settings") else {
             return Ok(());
         };
+        self.is_stale = true;
         self.options = self.first_options.copy(self.alloc)?;
         self.take_options(settings.get(SECTION).unwrap_or(settings))?;
-        self.say_unread(rt)?;
-        self.refresh(rt)
+        self.say_unread(rt)
     }
 
     /// Takes options, and says which of them cannot be read.
@@ -109,57 +109,58 @@ impl<C: ArgumentCheck> Workspace<'_, C> {
     }
 
     /// Takes a notification about a document.
-    fn note_document<R: Files + AllocGlobal + Clone + Drop>(
-        &mut self,
-        rt: &R,
-        call: Call<'_>,
-        told: &mut Vec<String>,
-    ) -> Result<(), AllocError> {
+    fn note_document(&mut self, call: Call<'_>) -> Result<(), AllocError> {
         let Some(uri) = call.uri() else {
             return Ok(());
         };
         let is_schema = schema_syntax(uri).is_some();
         match call.method {
-            "textDocument/didOpen" => self.note_opened(rt, uri, call),
+            "textDocument/didOpen" => self.note_opened(uri, call),
             "textDocument/didChange" => {
                 let edits = edits_in(self.alloc, call)?;
                 if is_schema {
-                    self.edit_schema(rt, uri, edits.as_slice(), call.version())
+                    self.edit_schema(uri, edits.as_slice(), call.version())
                 } else {
                     self.edit(uri, edits.as_slice(), call.version())
                 }
             }
-            "textDocument/didSave" => self.refresh(rt),
-            "textDocument/didClose" => {
-                told.push(published_nothing(self.alloc, uri)?)?;
-                if is_schema {
-                    self.close_schema(rt, uri)
-                } else {
-                    self.close(rt, uri)
-                }
+            "textDocument/didSave" => {
+                self.is_stale = true;
+                Ok(())
             }
+            "textDocument/didClose" => self.note_closed(uri, is_schema),
             _ => Ok(()),
         }
     }
 
-    fn note_opened<R: Files + AllocGlobal + Clone + Drop>(
-        &mut self,
-        rt: &R,
-        uri: &str,
-        call: Call<'_>,
-    ) -> Result<(), AllocError> {
+    fn note_opened(&mut self, uri: &str, call: Call<'_>) -> Result<(), AllocError> {
         let Some(text) = text_at(call.document(), "text") else {
             return Ok(());
         };
         if schema_syntax(uri).is_some() {
-            self.open_schema(rt, uri, text, call.version())
+            self.open_schema(uri, text, call.version())
         } else {
-            self.open(rt, uri, text, call.version())
+            self.open(uri, text, call.version())
         }
     }
 
-    /// Adds the messages that wait, and the diagnostics of each document that the editor was not told as they are now.
-    fn tell(&mut self, told: &mut Vec<String>) -> Result<(), AllocError> {
+    fn note_closed(&mut self, uri: &str, is_schema: bool) -> Result<(), AllocError> {
+        self.waiting.push(published_nothing(self.alloc, uri)?)?;
+        if is_schema {
+            return self.close_schema(uri);
+        }
+        self.close(uri);
+        Ok(())
+    }
+
+    /// Takes all changes that wait. The answer is the messages that wait, and the diagnostics of each document that the editor
+    /// was not told as they are now.
+    pub fn tell<R: Files + AllocGlobal + Clone + Drop>(
+        &mut self,
+        rt: &R,
+    ) -> Result<Vec<String>, AllocError> {
+        self.settle(rt)?;
+        let mut told = Vec::new(self.alloc);
         for message in &self.waiting {
             told.push(message.clone()?)?;
         }
@@ -184,12 +185,11 @@ impl<C: ArgumentCheck> Workspace<'_, C> {
         for document in self.documents.values_mut() {
             document.is_shown = true;
         }
-        Ok(())
+        Ok(told)
     }
 }
 
-/// The edits that a `didChange` tells. One without a text is passed over; one without a range that can be read replaces the
-/// whole text.
+/// The edits that a `didChange` tells. One that cannot be read is passed over; one without a range replaces the whole text.
 fn edits_in<'a>(alloc: Global, call: Call<'a>) -> Result<Vec<Edit<'a>>, AllocError> {
     let mut edits = Vec::new(alloc);
     let Some(changes) = call.member("contentChanges").and_then(Value::as_array) else {

@@ -109,7 +109,7 @@ impl<'e, C: ArgumentCheck> Workspace<'e, C> {
     }
 
     /// Reads a schema, unless its texts are those that it has. The answer is its key.
-    pub fn load<R: Files + AllocGlobal + Clone + Drop>(
+    fn load<R: Files + AllocGlobal + Clone + Drop>(
         &mut self,
         rt: &R,
         home: Option<Home>,
@@ -209,7 +209,7 @@ impl<'e, C: ArgumentCheck> Workspace<'e, C> {
     }
 
     /// The judge by the schema with this key and by the options; of reading alone if there is no schema without a fault.
-    pub fn judge_by(&self, key: Option<&String>) -> Result<Judge<'e, C>, AllocError> {
+    fn judge_by(&self, key: Option<&String>) -> Result<Judge<'e, C>, AllocError> {
         let validator = match self.schema_at(key) {
             Some(schema) if !schema.is_unread => schema.document.validator(),
             _ => None,

@@ -49,6 +49,7 @@ impl<R: Files + AllocGlobal + Clone + Drop, O: Write, E: Write> Server<'_, R, O,
             if self.take_all(session, alloc, &mut incoming)? == Step::Exit {
                 return Ok(session.status());
             }
+            self.tell(session, alloc)?;
         }
         Ok(session.status())
     }
@@ -89,11 +90,10 @@ impl<R: Files + AllocGlobal + Clone + Drop, O: Write, E: Write> Server<'_, R, O,
             Err(_) => return self.refuse(alloc, Refusal::NotJson),
         };
         let message = message_of(&root);
-        if let Message::Notification(call) = message {
-            if call.method == "exit" {
-                return Ok(Step::Exit);
-            }
-            self.note(session, alloc, call)?;
+        match message {
+            Message::Notification(call) if call.method == "exit" => return Ok(Step::Exit),
+            Message::Notification(call) => self.note(session, call)?,
+            _ => self.tell(session, alloc)?,
         }
         if let Some(reply) = session.reply(message) {
             self.send_reply(alloc, &reply)?;
@@ -101,14 +101,26 @@ impl<R: Files + AllocGlobal + Clone + Drop, O: Write, E: Write> Server<'_, R, O,
         Ok(Step::Next)
     }
 
-    /// Takes a notification, and sends the notifications that it leads to. If memory is refused, the log says so.
+    /// Takes a notification. If memory is refused, the log says so.
     fn note<C: ArgumentCheck>(
         &mut self,
         session: &mut Session<'_, C>,
-        alloc: Global,
         call: Call<'_>,
     ) -> io::Result<()> {
-        let notes = match session.note(self.rt, call) {
+        match session.note(self.rt, call) {
+            Ok(()) => Ok(()),
+            Err(error) => self.log(error),
+        }
+    }
+
+    /// Sends the notifications to which those that came lead: before a reply, and where no whole message has come, so that changes
+    /// which come behind one another are taken together. If memory is refused, the log says so.
+    fn tell<C: ArgumentCheck>(
+        &mut self,
+        session: &mut Session<'_, C>,
+        alloc: Global,
+    ) -> io::Result<()> {
+        let notes = match session.tell(self.rt) {
             Ok(notes) => notes,
             Err(error) => return self.log(error),
         };

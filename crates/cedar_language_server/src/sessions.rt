@@ -81,22 +81,35 @@ impl<'e, C: ArgumentCheck> Session<'e, C> {
                 Ok(Ok(told))
             }
             (Phase::Serving, method) => match Question::of_method(method) {
+                // memory was refused to a change that came before
+                Some(_) if !self.workspace.is_settled() => Ok(Err(Refusal::Memory)),
                 Some(question) => self.workspace.answer(question, call),
                 None => Ok(Err(Refusal::UnknownMethod)),
             },
         }
     }
 
-    /// Takes a notification, and answers the notifications that it leads to. A notification before `initialize` or after
-    /// `shutdown` is passed over, and so is one in another form, or a change of a document of policies that is not open.
+    /// Takes a notification. A notification before `initialize` or after `shutdown` is passed over, and so is one in another
+    /// form, or a change of a document that is not open.
     pub fn note<R: Files + AllocGlobal + Clone + Drop>(
         &mut self,
         rt: &R,
         call: Call<'_>,
+    ) -> Result<(), AllocError> {
+        if self.phase != Phase::Serving {
+            return Ok(());
+        }
+        self.workspace.note(rt, call)
+    }
+
+    /// The notifications that those which came lead to. Changes that came behind one another are taken together here.
+    pub fn tell<R: Files + AllocGlobal + Clone + Drop>(
+        &mut self,
+        rt: &R,
     ) -> Result<Vec<String>, AllocError> {
         if self.phase != Phase::Serving {
             return Ok(Vec::new(self.workspace.alloc));
         }
-        self.workspace.note(rt, call)
+        self.workspace.tell(rt)
     }
 }

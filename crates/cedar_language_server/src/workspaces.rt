@@ -1,19 +1,22 @@
 // The open documents, and the schemas by which policies are checked.
 use crate::options::Options;
 use crate::uris::{path_of, uri_of};
+use crate::waiting::WaitingEdit;
 use cedar_editor::documents::PolicyDocument;
 use cedar_editor::edits::{Edit, edited};
+use cedar_editor::judges::Judge;
 use cedar_editor::schemas::{SchemaDocument, SchemaText};
 use cedar_types::base::{ArgumentCheck, ExtensionSchemas};
 use std::alloc::{AllocError, Global};
 use std::collections::BTreeMap;
-use std::rt::Files;
 
 /// A document of policies that is open in the editor. Its judge is that of its schema.
 #[derive(Drop)]
 pub struct Document<'e, C: ArgumentCheck> {
     pub version: Option<u64>,
     pub policies: PolicyDocument<'e, C>,
+    /// The edits of each change that the policies do not have yet.
+    pub waiting: Vec<Vec<WaitingEdit>>,
     pub path: Option<String>,
     /// The key of the schema by which the document is checked.
     pub schema: Option<String>,
@@ -54,8 +57,10 @@ pub struct Workspace<'e, C: ArgumentCheck> {
     pub root: Option<String>,
     /// The editor watches files for the server.
     pub watches: bool,
-    /// Messages to the editor that wait for the next notification.
+    /// Messages to the editor that wait.
     pub waiting: Vec<String>,
+    /// A schema, its place or an option may have changed since the schemas were read.
+    pub is_stale: bool,
     /// The documents by their URIs.
     pub documents: BTreeMap<String, Document<'e, C>>,
     /// The open schema files by their paths.
@@ -75,6 +80,7 @@ impl<'e, C: ArgumentCheck> Workspace<'e, C> {
             root: None,
             watches: false,
             waiting: Vec::new(alloc),
+            is_stale: false,
             documents: BTreeMap::new(alloc),
             open_schemas: BTreeMap::new(alloc),
             schemas: BTreeMap::new(alloc),
@@ -130,26 +136,18 @@ impl<'e, C: ArgumentCheck> Workspace<'e, C> {
         None
     }
 
-    /// Opens a document of policies.
-    pub fn open<R: Files + AllocGlobal + Clone + Drop>(
-        &mut self,
-        rt: &R,
-        uri: &str,
-        text: &str,
-        version: Option<u64>,
-    ) -> Result<(), AllocError> {
-        let path = path_of(self.alloc, uri)?;
-        let home = self.home_of(rt, path.as_ref())?;
-        let schema = self.load(rt, home)?;
-        let judge = self.judge_by(schema.as_ref())?;
-        let policies = PolicyDocument::new(self.alloc, judge, text)?;
-        let document = Document {
+    /// Opens a document of policies, which takes its text later.
+    pub fn open(&mut self, uri: &str, text: &str, version: Option<u64>) -> Result<(), AllocError> {
+        self.is_stale = true;
+        let mut document = Document {
             version,
-            policies,
-            path,
-            schema,
+            policies: PolicyDocument::new(self.alloc, Judge::Reading(self.extensions), "")?,
+            waiting: Vec::new(self.alloc),
+            path: path_of(self.alloc, uri)?,
+            schema: None,
             is_shown: false,
         };
+        document.keep(self.alloc, &[Edit { range: None, text }], version)?;
         match self
             .documents
             .insert(String::from_str(self.alloc, uri)?, document)?
@@ -157,32 +155,30 @@ impl<'e, C: ArgumentCheck> Workspace<'e, C> {
             Some(old) => drop(old),
             None => {}
         }
-        self.refresh(rt)
+        Ok(())
     }
 
-    /// Takes edits of a document of policies.
+    /// Keeps edits of a document of policies, which it takes later.
     pub fn edit(
         &mut self,
         uri: &str,
         edits: &[Edit<'_>],
         version: Option<u64>,
     ) -> Result<(), AllocError> {
-        if let Some(document) = self.documents.get_mut(uri) {
-            document.policies.edit(self.alloc, edits)?;
-            document.version = version;
-            document.is_shown = false;
+        match self.documents.get_mut(uri) {
+            Some(document) => document.keep(self.alloc, edits, version),
+            None => Ok(()),
         }
-        Ok(())
     }
 
     /// Opens a schema file, whose text counts from now on as the editor has it.
-    pub fn open_schema<R: Files + AllocGlobal + Clone + Drop>(
+    pub fn open_schema(
         &mut self,
-        rt: &R,
         uri: &str,
         text: &str,
         version: Option<u64>,
     ) -> Result<(), AllocError> {
+        self.is_stale = true;
         let open = OpenSchema {
             uri: String::from_str(self.alloc, uri)?,
             version,
@@ -191,13 +187,12 @@ impl<'e, C: ArgumentCheck> Workspace<'e, C> {
             is_shown: false,
         };
         self.open_schemas.insert(key_of(self.alloc, uri)?, open)?;
-        self.refresh(rt)
+        Ok(())
     }
 
     /// Takes edits of an open schema file.
-    pub fn edit_schema<R: Files + AllocGlobal + Clone + Drop>(
+    pub fn edit_schema(
         &mut self,
-        rt: &R,
         uri: &str,
         edits: &[Edit<'_>],
         version: Option<u64>,
@@ -209,31 +204,25 @@ impl<'e, C: ArgumentCheck> Workspace<'e, C> {
         open.text = edited(self.alloc, open.text.as_str(), edits)?;
         open.version = version;
         open.is_shown = false;
-        self.refresh(rt)
+        self.is_stale = true;
+        Ok(())
     }
 
     /// Closes a schema file: from now on it counts as it is on disk, and not at all if it is not there.
-    pub fn close_schema<R: Files + AllocGlobal + Clone + Drop>(
-        &mut self,
-        rt: &R,
-        uri: &str,
-    ) -> Result<(), AllocError> {
+    pub fn close_schema(&mut self, uri: &str) -> Result<(), AllocError> {
+        self.is_stale = true;
         let key = key_of(self.alloc, uri)?;
         self.open_schemas.remove(key.as_str());
-        self.refresh(rt)
+        Ok(())
     }
 
     /// Closes a document of policies, if it is open.
-    pub fn close<R: Files + AllocGlobal + Clone + Drop>(
-        &mut self,
-        rt: &R,
-        uri: &str,
-    ) -> Result<(), AllocError> {
+    pub fn close(&mut self, uri: &str) {
+        self.is_stale = true;
         match self.documents.remove(uri) {
             Some(old) => drop(old),
             None => {}
         }
-        self.refresh(rt)
     }
 }
 
