@@ -9,6 +9,8 @@ SAMPLES = "crates/cedar_samples/src"
 PIECES = {
     "tour_schema": ("cedar", "examples/tour/photos.cedarschema"),
     "tour_policies": ("cedar", "examples/tour/share.cedar"),
+    # (what a run of cedar-validate writes: scripts/gate/application_cases.py --record makes these files)
+    **{f"run_{name}": ("console", f"examples/shown/{name}.txt") for name in ("refused", "accepted", "level", "since", "links")},
     "neovim_session": ("text", "examples/editors/neovim.txt"),
     "texts_host": ("rust", "crates/cedar_verdicts_tests/src/verdicts_tests/said.rt", "schema_of", "verdicts_shown", "all_shown", "push_said"),
     "rounds_host": ("rust", f"{SAMPLES}/rounds.rt", "load"),

@@ -1,5 +1,5 @@
 #!/usr/bin/env python3
-"""What cedar-validate says and how it ends: scripts/gate/application_cases.py [PROGRAM].
+"""What cedar-validate says and how it ends: scripts/gate/application_cases.py [--record] [PROGRAM].
 
 PROGRAM is cedar_validate, by default as it is built without a proof. It is called with words and files, and given files that are
 large or broken: each has to end in time with the status and the words that are wanted. (Other words, texts and formats are
@@ -7,7 +7,8 @@ judged by the tests of crates/cedar_verdicts_tests, which ask the libraries.) Th
 apps_*.tsv of crates/cedar_cases/data is a schema and some policies, with what has to be said of them: whether each is
 accepted in a mode, with which errors and at which texts, its least sufficient level where it is accepted, and its errors at
 a level. All policies of a file are validated by one run for each of these columns, and its objects of JSON are compared.
-Last, what README.md and docs/TOUR.md show of runs has to be what they write. The last line counts what agrees and what does not.
+Last, what README.md and docs/TOUR.md show of runs has to be what they write. With --record this script only writes the files of
+examples/shown anew, which docs/TOUR.md shows: a command, and what its run writes. The last line counts what agrees and what does not.
 """
 import itertools
 import json
@@ -21,6 +22,8 @@ import unproved  # noqa: E402
 
 TOP = Path(__file__).resolve().parents[2]
 CASES = TOP / "crates" / "cedar_cases" / "data"
+SHOWN = TOP / "examples" / "shown"
+ASKS = "$ scripts/validate "
 SECONDS = 120
 SCHEMA = """entity User in [User] { boss: User, age: Long, name: String } tags Long;
 entity File { owner: User };
@@ -194,16 +197,28 @@ def shown_runs():
     for page in ("README.md", "docs/TOUR.md"):
         lines = (TOP / page).read_text(encoding="utf8").splitlines()
         for at, line in enumerate(lines):
-            if line.startswith("$ scripts/validate "):
+            if line.startswith(ASKS):
                 yield page, line.split()[2:], [*itertools.takewhile(lambda it: it not in ("", "```"), lines[at + 1:])]
+
+
+def output(program, words):
+    """What a run at the top of the repository writes."""
+    return subprocess.run([str(program), *words], cwd=TOP, stdin=subprocess.DEVNULL, capture_output=True, text=True, timeout=SECONDS).stdout
 
 
 def differs(program, words, shown):
     """What a run writes, where that is not what is shown; else None."""
-    done = subprocess.run([str(program), *words], cwd=TOP, stdin=subprocess.DEVNULL, capture_output=True, text=True, timeout=SECONDS)
-    printed = done.stdout.splitlines()
+    text = output(program, words)
+    printed = text.splitlines()
     agrees_so_far = shown[-1:] == [".."] and printed[:len(shown) - 1] == shown[:-1]
-    return None if printed == shown or agrees_so_far else done.stdout
+    return None if printed == shown or agrees_so_far else text
+
+
+def record(program):
+    """Writes each file of shown runs anew."""
+    for path in sorted(SHOWN.glob("*.txt")):
+        asked = path.read_text(encoding="utf8").splitlines()[0]
+        path.write_text(f"{asked}\n{output(program, asked.removeprefix(ASKS).split())}", encoding="utf8")
 
 
 def applications(program):
@@ -229,7 +244,11 @@ def differences(program):
 
 
 def main(words):
-    program = unproved.named(words, "cedar_validate")
+    is_recorded = words[:1] == ["--record"]
+    program = unproved.named(words[is_recorded:], "cedar_validate")
+    if is_recorded:
+        record(program)
+        return
     passed = failed = 0
     for what, difference in differences(program):
         passed += difference is None
