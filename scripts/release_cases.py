@@ -28,6 +28,8 @@ from editor_cases import Counts
 
 TOP = unproved.TOP
 SECONDS = 900
+# A release that is made again builds all, which takes so long at most on a busy machine.
+AGAIN = 3600
 # How long cedar-validate may take to start, in milliseconds; the best of so many runs counts.
 MOST_START, RUNS = 20, 20
 ROOTS = ("stable", "oldstable")
@@ -36,8 +38,8 @@ int main(void) { return cedar_abi() != CEDAR_ABI; }
 """
 
 
-def ran(*words, **given):
-    return subprocess.run([str(it) for it in words], stdin=subprocess.DEVNULL, stdout=subprocess.PIPE, stderr=subprocess.STDOUT, text=True, timeout=SECONDS, **given)
+def ran(*words, timeout=SECONDS, **given):
+    return subprocess.run([str(it) for it in words], stdin=subprocess.DEVNULL, stdout=subprocess.PIPE, stderr=subprocess.STDOUT, text=True, timeout=timeout, **given)
 
 
 def first_example():
@@ -216,7 +218,7 @@ def main(words):
         signed(counts, file, room)
         refused(counts, room)
         if "--again" in flags:
-            done = ran(TOP / "scripts/release", "--verify", file)
+            done = ran(TOP / "scripts/release", "--verify", file, timeout=AGAIN)
             counts.want("it is made again", done.returncode == 0, done.stdout)
             print(done.stdout, end="", flush=True)
         if "--roots" in flags:
