@@ -6,29 +6,34 @@ mod records;
 mod scopes;
 mod types;
 
+use crate::search_room::SearchRoom;
 pub use accesses::hint_for_undeclared;
 pub(crate) use calls::hint_for_call;
 use cedar_types::base::{Template, ValidationError, ValidationWarning, ValidatorSchema};
 use std::alloc::{AllocError, Global};
 
-/// The hint against an error of a policy in a text, by a schema; empty if none is known.
+/// The hint against an error of a policy in a text, by a schema; empty if none is known. Near names are searched for in the
+/// room of the report.
 pub fn hint_for_error(
     alloc: Global,
     schema: &ValidatorSchema,
     policy: &Template,
     text: &str,
     error: &ValidationError,
+    room: &mut SearchRoom,
 ) -> Result<String, AllocError> {
     match error {
         ValidationError::UnrecognizedEntityType(found) => {
-            names::hint_for_type(alloc, schema, &found.actual_entity_type)
+            names::hint_for_type(alloc, schema, &found.actual_entity_type, room)
         }
         ValidationError::UnrecognizedActionId(found) => {
-            names::hint_for_action(alloc, schema, &found.actual_action_id)
+            names::hint_for_action(alloc, schema, &found.actual_action_id, room)
         }
-        ValidationError::InvalidEnumEntity(found) => names::hint_for_id(alloc, schema, &found.uid),
+        ValidationError::InvalidEnumEntity(found) => {
+            names::hint_for_id(alloc, schema, &found.uid, room)
+        }
         ValidationError::UnsafeAttributeAccess(found) => {
-            accesses::hint_for_attribute(alloc, schema, found)
+            accesses::hint_for_attribute(alloc, schema, found, room)
         }
         ValidationError::UnsafeOptionalAttributeAccess(found) => {
             accesses::hint_for_optional(alloc, text, found)

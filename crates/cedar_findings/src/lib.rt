@@ -39,6 +39,7 @@ pub mod reports;
 pub mod rules;
 pub mod sarif;
 pub mod schema_texts;
+pub mod search_room;
 pub mod shells;
 pub mod similar;
 pub mod sources;

@@ -1,6 +1,7 @@
 // Parts of a policy that make it impossible.
 use crate::settings::Settings;
 use cedar_findings::hints::hint_for_undeclared;
+use cedar_findings::search_room::SearchRoom;
 use cedar_typechecker::survey::Environments;
 use cedar_typechecker::typecheck::{PolicyCheck, Typechecker};
 use cedar_types::base::{
@@ -36,6 +37,7 @@ pub fn false_parts<C: ArgumentCheck>(
     alloc: Global,
     settings: &Settings<'_, C>,
     policy: &Template,
+    room: &mut SearchRoom,
 ) -> Result<Vec<FalsePart>, AllocError> {
     let schema = settings.validator.schema();
     let typechecker = Typechecker::new(schema, settings.validator.extensions(), settings.mode);
@@ -59,7 +61,7 @@ pub fn false_parts<C: ArgumentCheck>(
             // the scope does not admit the environment
             continue;
         }
-        if !add_part(alloc, schema, &mut parts, part, &env)? {
+        if !add_part(alloc, schema, &mut parts, part, &env, room)? {
             return Ok(Vec::new(alloc));
         }
     }
@@ -75,6 +77,7 @@ fn add_part(
     parts: &mut Vec<FalsePart>,
     part: Option<&Typed>,
     env: &RequestEnv<'_>,
+    room: &mut SearchRoom,
 ) -> Result<bool, AllocError> {
     let Some(own) = part else {
         return Ok(false);
@@ -96,18 +99,23 @@ fn add_part(
     parts.push(FalsePart {
         place,
         environments,
-        hint: hint_for(alloc, schema, own)?,
+        hint: hint_for(alloc, schema, own, room)?,
     })?;
     Ok(true)
 }
 
 /// The attribute that may be meant, if a part tests for one that is never there.
-fn hint_for(alloc: Global, schema: &ValidatorSchema, part: &Typed) -> Result<String, AllocError> {
+fn hint_for(
+    alloc: Global,
+    schema: &ValidatorSchema,
+    part: &Typed,
+    room: &mut SearchRoom,
+) -> Result<String, AllocError> {
     let ExprKind::HasAttr(base, attribute) = &part.kind else {
         return Ok(String::new(alloc));
     };
     match &base.annotation {
-        Some(ty) => hint_for_undeclared(alloc, schema, ty, attribute),
+        Some(ty) => hint_for_undeclared(alloc, schema, ty, attribute, room),
         None => Ok(String::new(alloc)),
     }
 }

@@ -6,10 +6,12 @@ ghost use Rattle.cedar_verdicts.specs.Verdicts.{basis_of, IsRightVerdict, IsWhol
 use crate::link_faults::LinkFaults;
 use crate::settings::Settings;
 use crate::slots::{Bound, has_slots, without_place};
-use crate::verdicts::judge;
+use crate::verdicts::judge_in_set;
 use cedar_findings::faults::Written;
 use cedar_findings::findings::Verdict;
 use cedar_findings::json_faults::form_fault;
+use cedar_findings::marks::marked_parts;
+use cedar_findings::search_room::SearchRoom;
 use cedar_findings::syntaxes::Syntax;
 use cedar_json::{FormError, Items, Object, Value, expected, items_of, text_of, value_alone};
 use cedar_reading::{ReadError, uid_alone};
@@ -207,12 +209,13 @@ impl Link {
 }
 
 /// The verdict on a policy that links a template of this text, as `judge` gives it. Hints take their examples from the text,
-/// unless the text is JSON.
+/// unless the text is JSON, and search for near names in this room.
 pub fn judge_link<C: ArgumentCheck>(
     alloc: Global,
     settings: &Settings<'_, C>,
     text: &str,
     policy: &Template,
+    room: &mut SearchRoom,
 ) -> Result<Verdict, AllocError>
     ensures right { IfOk result (IsRightVerdict (basis_of C.refusal settings.now)
         settings.now.level (template_of policy.now)) }
@@ -223,7 +226,10 @@ pub fn judge_link<C: ArgumentCheck>(
         Syntax::Cedar => text,
         Syntax::Json => "",
     };
-    judge(alloc, settings, examples, policy)
+    let marks = marked_parts(alloc, policy)?;
+    let marks = marks.as_slice();
+    let verdict = judge_in_set(alloc, settings, examples, policy, marks, None, room)?;
+    Ok(verdict)
 }
 
 fn read_link(alloc: Global, item: &Value) -> Result<Link, FormError> {

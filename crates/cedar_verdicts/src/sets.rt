@@ -14,6 +14,7 @@ use cedar_findings::columns::Columns;
 use cedar_findings::findings::Verdict;
 use cedar_findings::marks::{Marked, marked_parts};
 use cedar_findings::places::Places;
+use cedar_findings::search_room::SearchRoom;
 use cedar_reading::Position;
 use cedar_types::base::{ArgumentCheck, Template};
 use std::alloc::{AllocError, Global};
@@ -28,6 +29,8 @@ pub struct SetJudge<'a> {
     /// stand anywhere.
     places: Places<'a>,
     has_index: bool,
+    /// The room of the set for searches of near names.
+    room: SearchRoom,
 }
 
 impl<'a> SetJudge<'a> {
@@ -40,6 +43,7 @@ impl<'a> SetJudge<'a> {
             examples,
             places: Places::new(alloc, text, Columns::Characters),
             has_index: false,
+            room: SearchRoom::new(),
         }
     }
 
@@ -80,7 +84,8 @@ impl<'a> SetJudge<'a> {
     {
         let first = self.ids.take(&policy.id, place_of(policy).start)?;
         let same_id = self.position_of(first)?;
-        let verdict = judge_in_set(alloc, settings, self.examples, policy, marks, same_id)?;
+        let (examples, room) = (self.examples, &mut self.room);
+        let verdict = judge_in_set(alloc, settings, examples, policy, marks, same_id, room)?;
         Ok(verdict)
     }
 

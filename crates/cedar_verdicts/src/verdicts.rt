@@ -11,6 +11,7 @@ use crate::warnings::{find_false_parts, warning_causes};
 use crate::wording::{About, first_findings};
 use cedar_findings::findings::Verdict;
 use cedar_findings::marks::{Marked, marked_parts};
+use cedar_findings::search_room::SearchRoom;
 use cedar_reading::Position;
 use cedar_types::base::{ArgumentCheck, Template};
 use std::alloc::{AllocError, Global};
@@ -37,11 +38,22 @@ pub fn judge<C: ArgumentCheck>(
         settings.now.level (template_of policy.now) false) }
 {
     let marks = marked_parts(alloc, policy)?;
-    judge_in_set(alloc, settings, text, policy, marks.as_slice(), None)
+    let mut room = SearchRoom::new();
+    let verdict = judge_in_set(
+        alloc,
+        settings,
+        text,
+        policy,
+        marks.as_slice(),
+        None,
+        &mut room,
+    )?;
+    Ok(verdict)
 }
 
 /// The verdict on a policy of a set, in which these texts have marks of direction. The policy is
-/// refused if an earlier one of the set has its id, at this position of the text.
+/// refused if an earlier one of the set has its id, at this position of the text. Near names are
+/// searched for in the room of the set.
 pub(crate) fn judge_in_set<C: ArgumentCheck>(
     alloc: Global,
     settings: &Settings<'_, C>,
@@ -49,6 +61,7 @@ pub(crate) fn judge_in_set<C: ArgumentCheck>(
     policy: &Template,
     marks: &[Marked],
     same_id: Option<Position>,
+    room: &mut SearchRoom,
 ) -> Result<Verdict, AllocError>
     ensures right { IfOk result (IsRightVerdict (basis_of C.refusal settings.now)
         settings.now.level (template_of policy.now)) }
@@ -63,12 +76,12 @@ pub(crate) fn judge_in_set<C: ArgumentCheck>(
         applicable: found.applicable_environments,
     };
     let causes = error_causes(alloc, settings.mode, &found, policy, same_id)?;
-    let errors = first_findings(alloc, about, causes, MAX_FINDINGS)?;
-    let room = MAX_FINDINGS.saturating_sub(errors.listed.len());
-    let parts = find_false_parts(alloc, settings, &found, policy)?;
+    let errors = first_findings(alloc, about, causes, MAX_FINDINGS, room)?;
+    let most = MAX_FINDINGS.saturating_sub(errors.listed.len());
+    let parts = find_false_parts(alloc, settings, &found, policy, room)?;
     let slips = warning_causes(alloc, &found, parts.as_slice(), marks, policy)?;
     let warning_count = slips.len() as u64;
-    let warnings = first_findings(alloc, about, slips, room)?;
+    let warnings = first_findings(alloc, about, slips, most, room)?;
     let others = errors.others.saturating_add(warnings.others);
     let requirement = requirement(alloc, settings, policy, &found)?;
     Ok(Verdict {

@@ -11,6 +11,7 @@ use crate::impossible::{FalsePart, false_parts};
 use crate::settings::Settings;
 use cedar_findings::codes::Code;
 use cedar_findings::marks::Marked;
+use cedar_findings::search_room::SearchRoom;
 use cedar_host::policy_sets::Findings;
 use cedar_typechecker::survey::Environments;
 use cedar_types::base::{ArgumentCheck, Template, ValidationError, ValidationWarning};
@@ -23,9 +24,10 @@ pub fn find_false_parts<C: ArgumentCheck>(
     settings: &Settings<'_, C>,
     found: &Findings,
     policy: &Template,
+    room: &mut SearchRoom,
 ) -> Result<Vec<FalsePart>, AllocError> {
     if found.is_impossible && !has_unknown_name(&found.errors) {
-        return false_parts(alloc, settings, policy);
+        return false_parts(alloc, settings, policy, room);
     }
     Ok(Vec::new(alloc))
 }

@@ -10,6 +10,7 @@ use crate::environments::ShownEnvironments;
 use cedar_findings::findings::Finding;
 use cedar_findings::hints::{hint_for_error, hint_for_warning};
 use cedar_findings::lengths::{cut_name, shortened};
+use cedar_findings::search_room::SearchRoom;
 use cedar_reading::Position;
 use cedar_types::base::{Message, Template, ValidatorSchema};
 use std::alloc::{AllocError, Global};
@@ -52,6 +53,7 @@ pub fn first_findings(
     about: About<'_>,
     mut causes: Vec<Found<'_>>,
     most: usize,
+    room: &mut SearchRoom,
 ) -> Result<FirstFindings, AllocError>
     ensures first { IfOk result (AreFirstOf most causes.entry.items) }
     ensures some { IfOk result (λ findings.
@@ -67,7 +69,7 @@ pub fn first_findings(
 {
     causes.sort_by_key(|it| (it.place.start, it.place.end))?;
     let mistakes = mistakes_of(alloc, causes.as_slice())?;
-    let mut findings = findings_of(alloc, about, mistakes.as_slice(), most)?;
+    let mut findings = findings_of(alloc, about, mistakes.as_slice(), most, room)?;
     findings.listed.sort()?;
     Ok(findings)
 }
@@ -117,6 +119,7 @@ fn findings_of(
     about: About<'_>,
     mistakes: &[Mistake<'_>],
     most: usize,
+    room: &mut SearchRoom,
 ) -> Result<FirstFindings, AllocError>
     ensures listed { IfOk result (λ findings.
         length findings.listed.items ≡ min most (length mistakes.now)) }
@@ -130,7 +133,7 @@ fn findings_of(
 {
     let (first, rest) = mistakes.split_at(most.min(mistakes.len()));
     Ok(FirstFindings {
-        listed: each_finding(alloc, about, first)?,
+        listed: each_finding(alloc, about, first, room)?,
         others: rest.len(),
     })
 }
@@ -140,6 +143,7 @@ fn each_finding(
     alloc: Global,
     about: About<'_>,
     mistakes: &[Mistake<'_>],
+    room: &mut SearchRoom,
 ) -> Result<Vec<Finding>, AllocError>
     ensures each { IfOk result (λ findings. length findings.items ≡ length mistakes.now) }
     ensures told { IfOk result (λ findings. list_any is_of_impossible mistakes.now ≡ true
@@ -149,13 +153,18 @@ fn each_finding(
 {
     let mut findings = Vec::new(alloc);
     for mistake in mistakes {
-        findings.push(finding_of(alloc, about, mistake)?)?;
+        findings.push(finding_of(alloc, about, mistake, room)?)?;
     }
     Ok(findings)
 }
 
 /// The finding of a mistake: the words of its first cause, and the types and environments of all.
-fn finding_of(alloc: Global, about: About<'_>, mistake: &Mistake<'_>) -> Result<Finding, AllocError>
+fn finding_of(
+    alloc: Global,
+    about: About<'_>,
+    mistake: &Mistake<'_>,
+    room: &mut SearchRoom,
+) -> Result<Finding, AllocError>
     ensures told { IfOk result (λ finding.
         is_of_impossible mistake.now ≡ true → calls_impossible finding ≡ true) }
     ensures only { IfOk result (λ finding.
@@ -163,7 +172,7 @@ fn finding_of(alloc: Global, about: About<'_>, mistake: &Mistake<'_>) -> Result<
 {
     let Mistake { first, others } = mistake;
     let text = text_of(alloc, first.cause)?;
-    let hint = hint(alloc, about, first.cause)?;
+    let hint = hint(alloc, about, first.cause, room)?;
     Ok(Finding {
         start: first.place.start,
         end: first.place.end,
@@ -190,10 +199,21 @@ fn text_of(alloc: Global, cause: Cause<'_>) -> Result<String, AllocError> {
     }
 }
 
-fn hint(alloc: Global, about: About<'_>, cause: Cause<'_>) -> Result<String, AllocError> {
+fn hint(
+    alloc: Global,
+    about: About<'_>,
+    cause: Cause<'_>,
+    room: &mut SearchRoom,
+) -> Result<String, AllocError> {
     match cause {
         Cause::Error(error, _) => {
-            hint_for_error(alloc, about.schema, about.policy, about.text, error)
+            let About {
+                schema,
+                policy,
+                text,
+                ..
+            } = about;
+            hint_for_error(alloc, schema, policy, text, error, room)
         }
         Cause::NoAction(warning) => hint_for_warning(alloc, about.schema, about.policy, warning),
         Cause::Impossible(_, Some(part)) => hint_for_false(alloc, part.hint.as_str()),

@@ -1,6 +1,7 @@
 // Hints against attributes and tags that are not declared, or may be missing.
 use crate::escapes::ShownId;
 use crate::parts::{operation_at, text_at};
+use crate::search_room::SearchRoom;
 use crate::similar::Search;
 use cedar_types::base::{
     Attributes, BinaryOp, CedarType, EntityKind, EntityLUB, EntityType, Loc, Template,
@@ -15,22 +16,24 @@ pub fn hint_for_attribute(
     alloc: Global,
     schema: &ValidatorSchema,
     found: &UnsafeAttributeAccess,
+    room: &mut SearchRoom,
 ) -> Result<String, AllocError> {
     if let CedarType::Entity(EntityKind::Entity(types)) = &found.accessed_type {
         if let Some(lacking) = type_without(schema, types, &found.attr) {
             return format!(in alloc; "of these types `{lacking}` does not declare it");
         }
     }
-    hint_for_undeclared(alloc, schema, &found.accessed_type, &found.attr)
+    hint_for_undeclared(alloc, schema, &found.accessed_type, &found.attr, room)
 }
 
 /// The attribute of a type that may be meant by one that the type does not declare, or an empty text. If there are several
-/// entity types, the attributes of the first are compared.
+/// entity types, the attributes of the first are compared. No attribute is searched for once the room is used up.
 pub fn hint_for_undeclared(
     alloc: Global,
     schema: &ValidatorSchema,
     ty: &CedarType,
     attribute: &RcStr,
+    room: &mut SearchRoom,
 ) -> Result<String, AllocError> {
     let attributes = match ty {
         CedarType::Record { attributes, .. } => Some(attributes),
@@ -43,7 +46,7 @@ pub fn hint_for_undeclared(
     let Some(attributes) = attributes else {
         return Ok(String::new(alloc));
     };
-    match nearest_attribute(alloc, attribute.as_str(), attributes)? {
+    match nearest_attribute(alloc, attribute.as_str(), attributes, room)? {
         Some(name) => format!(in alloc; "did you mean `{name}`?"),
         None => Ok(String::new(alloc)),
     }
@@ -53,7 +56,11 @@ fn nearest_attribute<'a>(
     alloc: Global,
     unknown: &str,
     attributes: &'a Attributes,
+    room: &mut SearchRoom,
 ) -> Result<Option<&'a RcStr>, AllocError> {
+    if room.is_used_up() {
+        return Ok(None);
+    }
     let mut search = Search::new(alloc, unknown)?;
     let mut nearest = None;
     for name in attributes.attrs.keys() {
@@ -64,6 +71,7 @@ fn nearest_attribute<'a>(
             nearest = Some(name);
         }
     }
+    room.take(&search);
     Ok(nearest)
 }
 

@@ -1,4 +1,5 @@
 // Hints against names of types, actions and ids that the schema does not declare.
+use crate::search_room::SearchRoom;
 use crate::similar::Search;
 use cedar_types::base::{EntityType, EntityUID, ValidatorEntityTypeKind, ValidatorSchema};
 use std::alloc::{AllocError, Global};
@@ -13,12 +14,17 @@ const MAX_NAMES_LISTED: usize = 6;
 /// The words before the entity types or actions of a schema.
 const BEFORE_NAMES: &str = "the schema declares ";
 
-/// The declared type with the nearest name, in any namespace; or all types, if there are few.
+/// The declared type with the nearest name, in any namespace; or all types, if there are few. The hint is empty once the room
+/// is used up.
 pub fn hint_for_type(
     alloc: Global,
     schema: &ValidatorSchema,
     unknown: &EntityType,
+    room: &mut SearchRoom,
 ) -> Result<String, AllocError> {
+    if room.is_used_up() {
+        return Ok(String::new(alloc));
+    }
     let mut search = Search::new(alloc, unknown.name.basename.as_str())?;
     let mut nearest = None;
     for name in schema.entity_type_names(alloc)? {
@@ -30,6 +36,7 @@ pub fn hint_for_type(
             nearest = Some(name);
         }
     }
+    room.take(&search);
     match nearest {
         Some(name) => format!(in alloc; "did you mean `{name}`?"),
         None => list_types(alloc, schema),
@@ -37,12 +44,16 @@ pub fn hint_for_type(
 }
 
 /// The declared action with the nearest id, in any namespace; or all actions, if there are few. If the id begins with the text
-/// of a type, only the rest is compared.
+/// of a type, only the rest is compared. The hint is empty once the room is used up.
 pub fn hint_for_action(
     alloc: Global,
     schema: &ValidatorSchema,
     unknown: &EntityUID,
+    room: &mut SearchRoom,
 ) -> Result<String, AllocError> {
+    if room.is_used_up() {
+        return Ok(String::new(alloc));
+    }
     let mut search = Search::new(alloc, id_alone(unknown.eid.as_str()))?;
     let mut nearest = None;
     for action in schema.action_ids(alloc)? {
@@ -54,6 +65,7 @@ pub fn hint_for_action(
             nearest = Some(&action.name);
         }
     }
+    room.take(&search);
     match nearest {
         Some(name) => format!(in alloc; "did you mean `{name}`?"),
         None => list_actions(alloc, schema),
@@ -94,11 +106,13 @@ fn id_alone(eid: &str) -> &str {
     }
 }
 
-/// The nearest id of an enumerated type, or a list of its ids. If a type has many, the first are compared.
+/// The nearest id of an enumerated type, or a list of its ids. If a type has many, the first are compared. Once the room is
+/// used up, the ids are listed.
 pub fn hint_for_id(
     alloc: Global,
     schema: &ValidatorSchema,
     unknown: &EntityUID,
+    room: &mut SearchRoom,
 ) -> Result<String, AllocError> {
     let Some(declared) = schema.get_entity_type(&unknown.entity_type) else {
         return Ok(String::new(alloc));
@@ -106,9 +120,24 @@ pub fn hint_for_id(
     let ValidatorEntityTypeKind::Enum(ids) = &declared.kind else {
         return Ok(String::new(alloc));
     };
-    let mut search = Search::new(alloc, unknown.eid.as_str())?;
+    match nearest_id(alloc, unknown.eid.as_str(), ids.as_slice(), room)? {
+        Some(id) => format!(in alloc; "did you mean `{}::\"{id}\"`?", unknown.entity_type),
+        None => list_ids(alloc, ids.as_slice()),
+    }
+}
+
+fn nearest_id<'a>(
+    alloc: Global,
+    unknown: &str,
+    ids: &'a [RcStr],
+    room: &mut SearchRoom,
+) -> Result<Option<&'a RcStr>, AllocError> {
+    if room.is_used_up() {
+        return Ok(None);
+    }
+    let mut search = Search::new(alloc, unknown)?;
     let mut nearest = None;
-    for id in ids.as_slice() {
+    for id in ids {
         if search.is_over() {
             break;
         }
@@ -116,10 +145,8 @@ pub fn hint_for_id(
             nearest = Some(id);
         }
     }
-    match nearest {
-        Some(id) => format!(in alloc; "did you mean `{}::\"{id}\"`?", unknown.entity_type),
-        None => list_ids(alloc, ids.as_slice()),
-    }
+    room.take(&search);
+    Ok(nearest)
 }
 
 /// The first ids, and the number of the others.

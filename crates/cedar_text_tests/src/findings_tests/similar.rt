@@ -1,4 +1,5 @@
 // Slips between two names, and searches for the nearest name.
+use cedar_findings::search_room::SearchRoom;
 use cedar_findings::similar::{Search, distance};
 use std::alloc::{AllocError, Global};
 use std::test::Fail;
@@ -95,5 +96,21 @@ fn a_search_ends(rt: HostRuntime) -> Result<(), Fail> {
         assert_eq!(rt; search.is_over(), is_over);
         assert_eq!(rt; search.is_nearer("resource", false)?, !is_over);
     }
+    Ok(())
+}
+
+/// The room of a report lasts for a hundred searches that go to their end.
+#[test]
+fn a_room_ends(rt: HostRuntime) -> Result<(), Fail> {
+    let mut room = SearchRoom::new();
+    for number in 1..=100 {
+        assert_eq!(rt; room.is_used_up(), false, "at search {number}");
+        let mut search = Search::new(rt.alloc(), "resource")?;
+        for _ in 0..5_000 {
+            search.is_nearer("another", false)?;
+        }
+        room.take(&search);
+    }
+    assert_eq!(rt; room.is_used_up(), true);
     Ok(())
 }

@@ -7,6 +7,7 @@ use crate::texts::{MAX_FAULTS, PolicyText};
 use cedar_findings::change_reports::ChangeReport;
 use cedar_findings::findings::Verdict;
 use cedar_findings::outputs::Output;
+use cedar_findings::search_room::SearchRoom;
 use cedar_findings::sources::Source;
 use cedar_types::base::{ArgumentCheck, Template};
 use std::alloc::{AllocError, Global};
@@ -23,6 +24,8 @@ pub struct BothSettings<'a, C = Box<dyn ArgumentCheck>> {
 pub struct ShownChanges<'a> {
     compared: Comparisons<'a>,
     report: ChangeReport<'a>,
+    /// The room of the links for searches of near names.
+    room: SearchRoom,
 }
 
 impl<'a> ShownChanges<'a> {
@@ -38,7 +41,12 @@ impl<'a> ShownChanges<'a> {
         match Comparisons::new(alloc, functions, &text)? {
             Ok(compared) => {
                 let report = ChangeReport::new(alloc, output.columns, source)?;
-                Ok(Some(ShownChanges { compared, report }))
+                let room = SearchRoom::new();
+                Ok(Some(ShownChanges {
+                    compared,
+                    report,
+                    room,
+                }))
             }
             Err(fault) => {
                 output.add_fault(alloc, source, &fault)?;
@@ -88,8 +96,8 @@ impl<'a> ShownChanges<'a> {
         output: &mut Output,
     ) -> Result<(), AllocError> {
         let text = self.report.source().text;
-        let was = judge_link(alloc, &settings.old, text, linked)?;
-        let is = judge_link(alloc, &settings.new, text, linked)?;
+        let was = judge_link(alloc, &settings.old, text, linked, &mut self.room)?;
+        let is = judge_link(alloc, &settings.new, text, linked, &mut self.room)?;
         self.show_change(alloc, settings, linked, (&was, &is), output)
     }
 

@@ -6,6 +6,7 @@ use crate::texts::{MAX_FAULTS, PolicyText, PolicyVerdicts, Said};
 use cedar_findings::findings::Verdict;
 use cedar_findings::outputs::Output;
 use cedar_findings::reports::Report;
+use cedar_findings::search_room::SearchRoom;
 use cedar_findings::sources::Source;
 use cedar_types::base::{ArgumentCheck, Template};
 use std::alloc::{AllocError, Global};
@@ -24,6 +25,8 @@ pub struct ShownPolicies<'a> {
     source: Source<'a>,
     said: PolicyVerdicts<'a>,
     report: Report<'a>,
+    /// The room of the links for searches of near names.
+    room: SearchRoom,
 }
 
 impl<'a> ShownPolicies<'a> {
@@ -54,6 +57,7 @@ impl<'a> ShownPolicies<'a> {
             source,
             said,
             report,
+            room: SearchRoom::new(),
         }))
     }
 
@@ -105,7 +109,8 @@ impl<'a> ShownPolicies<'a> {
         self.report.index_places()?;
         for number in numbers {
             if let Some(linked) = shared.links.link(alloc, number, template)? {
-                let verdict = judge_link(alloc, settings, self.source.text, &linked)?;
+                let (text, room) = (self.source.text, &mut self.room);
+                let verdict = judge_link(alloc, settings, text, &linked, room)?;
                 self.show_policy(alloc, &linked, verdict, shared, output)?;
             }
         }
