@@ -1,4 +1,7 @@
 //! Changes for a policy from one schema to another, in each format.
+ghost use Rattle.std.specs.Prelude.{◌≡◌, ◌+◌};
+ghost use Rattle.cedar_findings.specs.Counts.{capped, one_more_if};
+
 use crate::environment_changes::{EnvironmentChanges, push_environments};
 use crate::escapes::{Shown, ShownId};
 use crate::findings::{Finding, Requirement, Severity, Verdict};
@@ -72,13 +75,18 @@ pub struct ChangeTally {
 }
 
 impl ChangeTally {
-    /// Counts a policy.
-    pub fn add(&mut self, comparison: &Comparison<'_, '_>) {
+    /// Counts a policy, and counts it as worse off exactly if the comparison says so.
+    pub fn add(&mut self, comparison: &Comparison<'_, '_>)
+        ensures policies { self.new.policies ≡ capped (self.old.policies + 1) }
+        ensures worse { self.new.worse ≡ one_more_if comparison.now.is_worse self.old.worse }
+    {
         self.policies = self.policies.saturating_add(1);
-        self.changed = self
-            .changed
-            .saturating_add(u64::from(!comparison.is_empty()));
-        self.worse = self.worse.saturating_add(u64::from(comparison.is_worse));
+        if !comparison.is_empty() {
+            self.changed = self.changed.saturating_add(1);
+        }
+        if comparison.is_worse {
+            self.worse = self.worse.saturating_add(1);
+        }
     }
 }
 

@@ -1,4 +1,7 @@
 //! Findings and verdicts on a policy.
+ghost use Rattle.std.specs.Prelude.{◌≡◌};
+ghost use Rattle.cedar_findings.specs.Counts.{joined};
+
 use crate::codes::Code;
 use cedar_types::base::{EntityDerefLevel, Loc, Template};
 use std::alloc::{AllocError, Global};
@@ -58,7 +61,9 @@ impl Default for Requirement {
 impl Requirement {
     /// The requirement of two policies together: the greater level, and none is enough if none is
     /// for one of them.
-    pub fn join(self, other: Requirement) -> Requirement {
+    pub fn join(self, other: Requirement) -> Requirement
+        ensures { result ≡ joined self other }
+    {
         match (self, other) {
             (Requirement::NoLevel, _) | (_, Requirement::NoLevel) => Requirement::NoLevel,
             (Requirement::Unsaid, it) | (it, Requirement::Unsaid) => it,

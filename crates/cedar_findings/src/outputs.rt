@@ -1,6 +1,8 @@
 //! Output of a call in the format that the caller asks for, until it is written, with the counts so far. Once memory is
 //! refused, nothing more is shown.
-use crate::arguments::Task;
+ghost use Rattle.std.specs.Prelude.{◌≡◌, length, IfOk};
+ghost use Rattle.cedar_findings.specs.Counts.{text_in, CountsFaults, CountsSame};
+
 use crate::changes::{ChangeTally, push_tally};
 use crate::colours::{Colours, painted};
 use crate::columns::Columns;
@@ -48,7 +50,9 @@ impl Output {
     }
 
     /// Clears the text, because it was written.
-    pub fn clear(&mut self) {
+    pub fn clear(&mut self)
+        ensures { CountsSame self.old self.new }
+    {
         self.shown.clear();
     }
 
@@ -59,7 +63,9 @@ impl Output {
         alloc: Global,
         format: Format,
         columns: Columns,
-    ) -> Result<(), AllocError> {
+    ) -> Result<(), AllocError>
+        ensures { CountsSame self.old self.new }
+    {
         self.format = format.with_columns(columns);
         self.columns = columns;
         let mut shown = String::new(alloc);
@@ -68,7 +74,9 @@ impl Output {
     }
 
     /// Shows the findings in the file of this name.
-    pub fn show(&mut self, alloc: Global, name: &str, found: &str) -> Result<(), AllocError> {
+    pub fn show(&mut self, alloc: Global, name: &str, found: &str) -> Result<(), AllocError>
+        ensures { CountsSame self.old self.new }
+    {
         match (self.colours, self.format) {
             (Colours::Terminal, Format::Lines(_)) => {
                 let painted = painted(alloc, name, found)?;
@@ -84,7 +92,9 @@ impl Output {
         alloc: Global,
         source: Source<'_>,
         fault: &TextFault,
-    ) -> Result<(), AllocError> {
+    ) -> Result<(), AllocError>
+        ensures { CountsSame self.old self.new }
+    {
         let columns = self.columns;
         let found = render_fault(alloc, &mut self.format, columns, source, fault)?;
         self.show(alloc, source.name, found.as_str())
@@ -96,13 +106,17 @@ impl Output {
         alloc: Global,
         source: Source<'_>,
         fault: &TextFault,
-    ) -> Result<(), AllocError> {
+    ) -> Result<(), AllocError>
+        ensures { CountsFaults 1 self.old self.new }
+    {
         self.totals.add_fault();
         self.show_fault(alloc, source, fault)
     }
 
     /// Shows that a file, or the rest of it, cannot be read.
-    pub fn show_missing(&mut self, alloc: Global, name: &str, why: &str) -> Result<(), AllocError> {
+    pub fn show_missing(&mut self, alloc: Global, name: &str, why: &str) -> Result<(), AllocError>
+        ensures { CountsSame self.old self.new }
+    {
         let found = render_missing(alloc, &mut self.format, name, why)?;
         self.show(alloc, name, found.as_str())
     }
@@ -114,7 +128,10 @@ impl Output {
         alloc: Global,
         name: &str,
         read: io::Result<Content>,
-    ) -> Result<Option<String>, AllocError> {
+    ) -> Result<Option<String>, AllocError>
+        ensures exact { IfOk result (λ text. text ≡ text_in read) }
+        ensures kept { CountsSame self.old self.new }
+    {
         match read {
             Ok(Content::Text(text)) => return Ok(Some(text)),
             Ok(Content::Broken(front, fault)) => {
@@ -135,10 +152,12 @@ impl Output {
         alloc: Global,
         source: Source<'_>,
         faults: &[TextFault],
-    ) -> Result<(), AllocError> {
+    ) -> Result<(), AllocError>
+        ensures { CountsFaults (length faults.now) self.old self.new }
+    {
+        self.totals.add_faults(faults.len() as u64);
         let mut report = Report::new(alloc, self.format, self.columns, source);
         for fault in faults {
-            self.totals.add_fault();
             let found = report.fault_shown(alloc, fault)?;
             self.show(alloc, source.name, found.as_str())?;
         }
@@ -147,21 +166,27 @@ impl Output {
     }
 
     /// Shows the number of further faults of a file, and counts them.
-    pub fn add_others(&mut self, alloc: Global, name: &str, faults: u64) -> Result<(), AllocError> {
+    pub fn add_others(&mut self, alloc: Global, name: &str, faults: u64) -> Result<(), AllocError>
+        ensures { CountsFaults faults self.old self.new }
+    {
         self.totals.add_faults(faults);
         let why = format!(in alloc; "{faults} more faults")?;
         self.show_missing(alloc, name, why.as_str())
     }
 
     /// Shows and counts that the rest of a file is not read, because the file has this many faults.
-    pub fn add_cut(&mut self, alloc: Global, name: &str, faults: u64) -> Result<(), AllocError> {
+    pub fn add_cut(&mut self, alloc: Global, name: &str, faults: u64) -> Result<(), AllocError>
+        ensures { CountsFaults 1 self.old self.new }
+    {
         self.totals.add_fault();
         let why = format!(in alloc; "{faults} faults, so the rest of the file is not read")?;
         self.show_missing(alloc, name, why.as_str())
     }
 
     /// Shows the end of the output: a quiet output leaves it out, unless the format is one object for all.
-    pub fn end(&mut self, alloc: Global) -> Result<(), AllocError> {
+    pub fn end(&mut self, alloc: Global) -> Result<(), AllocError>
+        ensures { CountsSame self.old self.new }
+    {
         if self.is_quiet && !matches!(self.format, Format::Sarif(_)) {
             return Ok(());
         }
@@ -171,7 +196,9 @@ impl Output {
     }
 
     /// Shows the end of a comparison's output.
-    pub fn end_changes(&mut self, alloc: Global) -> Result<(), AllocError> {
+    pub fn end_changes(&mut self, alloc: Global) -> Result<(), AllocError>
+        ensures { CountsSame self.old self.new }
+    {
         if matches!(self.format, Format::Sarif(_)) || self.totals.lacks_schema {
             return self.end(alloc);
         }
@@ -181,13 +208,5 @@ impl Output {
         let mut shown = String::new(alloc);
         push_tally(&mut shown, self.format, self.changes, self.totals.faults)?;
         self.shown.push_str(shown.as_str())
-    }
-
-    /// The exit status, as the program's own. A comparison also has 1 if a policy is worse off.
-    pub fn status(&self, task: Task, denies_warnings: bool) -> u8 {
-        match (task, self.totals.status(denies_warnings)) {
-            (Task::Comparison, 0) => u8::from(self.changes.worse > 0),
-            (_, status) => status,
-        }
     }
 }

@@ -8,15 +8,3 @@ pub enum Statuses {
     /// Those of `cedar validate`: 0 if all is accepted, 3 if validation fails, 1 if the command does.
     Cedar,
 }
-
-impl Statuses {
-    /// The status for this one of the program's own.
-    pub fn of(self, own: u8) -> u8 {
-        match (self, own) {
-            (Statuses::Own, it) => it,
-            (Statuses::Cedar, 0) => 0,
-            (Statuses::Cedar, 1) => 3,
-            (Statuses::Cedar, _) => 1,
-        }
-    }
-}

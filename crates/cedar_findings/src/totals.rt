@@ -1,6 +1,9 @@
 //! Counts of findings.
+ghost use Rattle.std.specs.Prelude.{◌≡◌, length, filter};
+ghost use Rattle.cedar_findings.specs.Counts.{is_fault, is_mistake, with_data, with_faults, with_missing_schema, with_read, with_verdict};
+
 use crate::codes::Code;
-use crate::data_findings::DataVerdict;
+use crate::data_findings::{DataFinding, DataVerdict};
 use crate::findings::{Requirement, Verdict};
 
 /// The number of policies that were read, accepted and refused, of warnings and of faults, and the requirement of all policies
@@ -27,26 +30,11 @@ pub struct DataTally {
     pub errors: u64,
 }
 
-impl DataTally {
-    /// Counts these entities too.
-    pub fn add_entities(&mut self, count: u64) {
-        self.entities = self.entities.saturating_add(count);
-    }
-
-    /// Notes that data does not conform to the schema.
-    pub fn refuse(&mut self) {
-        self.is_refused = true;
-    }
-
-    /// Counts a mistake.
-    pub fn add_error(&mut self) {
-        self.errors = self.errors.saturating_add(1);
-    }
-}
-
 impl Totals {
-    /// Counts a policy.
-    pub fn add(&mut self, verdict: &Verdict) {
+    /// Counts a policy by its verdict. Every counter here stays at the greatest number of its type.
+    pub fn add(&mut self, verdict: &Verdict)
+        ensures { self.new ≡ with_verdict verdict.now self.old }
+    {
         self.policies = self.policies.saturating_add(1);
         if verdict.is_accepted {
             self.accepted = self.accepted.saturating_add(1);
@@ -58,37 +46,41 @@ impl Totals {
     }
 
     /// Counts policies that were read, and not validated.
-    pub fn add_read(&mut self, count: u64) {
+    pub fn add_read(&mut self, count: u64)
+        ensures { self.new ≡ with_read count self.old }
+    {
         self.policies = self.policies.saturating_add(count);
     }
 
     /// Counts data, and each of its mistakes. A text that is no data counts as a fault.
-    pub fn add_data(&mut self, verdict: &DataVerdict) {
-        self.data.add_entities(verdict.entities as u64);
-        if !verdict.is_accepted {
-            self.data.refuse();
-        }
-        for finding in &verdict.findings {
-            if finding.code == Code::Fault {
-                self.add_fault();
-            } else {
-                self.data.add_error();
-            }
-        }
+    pub fn add_data(&mut self, verdict: &DataVerdict)
+        ensures { self.new ≡ with_data verdict.now self.old }
+    {
+        let findings = verdict.findings.as_slice();
+        self.add_faults(count_faults(findings));
+        self.data.is_refused = self.data.is_refused | !verdict.is_accepted;
+        self.data.entities = self.data.entities.saturating_add(verdict.entities as u64);
+        self.data.errors = self.data.errors.saturating_add(count_mistakes(findings));
     }
 
     /// Counts a fault.
-    pub fn add_fault(&mut self) {
+    pub fn add_fault(&mut self)
+        ensures { self.new ≡ with_faults 1 self.old }
+    {
         self.add_faults(1);
     }
 
     /// Counts so many faults.
-    pub fn add_faults(&mut self, count: u64) {
+    pub fn add_faults(&mut self, count: u64)
+        ensures { self.new ≡ with_faults count self.old }
+    {
         self.faults = self.faults.saturating_add(count);
     }
 
     /// Counts the missing schema as a fault.
-    pub fn add_missing_schema(&mut self) {
+    pub fn add_missing_schema(&mut self)
+        ensures { self.new ≡ with_missing_schema self.old }
+    {
         self.lacks_schema = true;
         self.add_fault();
     }
@@ -103,16 +95,25 @@ impl Totals {
             ("faults", self.faults),
         ]
     }
+}
 
-    /// The exit status: 2 if there is a fault, else 1 if a policy or data is refused, or if there is a warning and warnings are
-    /// denied, else 0.
-    pub fn status(&self, denies_warnings: bool) -> u8 {
-        if self.faults > 0 {
-            2
-        } else if self.refused > 0 || self.data.is_refused || denies_warnings && self.warnings > 0 {
-            1
-        } else {
-            0
-        }
-    }
+/// The number of findings that a text is no data.
+fn count_faults(findings: &[DataFinding]) -> u64
+    ensures { result ≡ length (filter is_fault findings.now) }
+{
+    findings.iter().filter(|it| says_fault(it)).count() as u64
+}
+
+/// The number of mistakes in data among findings.
+fn count_mistakes(findings: &[DataFinding]) -> u64
+    ensures { result ≡ length (filter is_mistake findings.now) }
+{
+    findings.iter().filter(|it| !says_fault(it)).count() as u64
+}
+
+/// Whether a finding says that a text is no data.
+fn says_fault(finding: &DataFinding) -> bool
+    ensures { result ≡ is_fault finding.now }
+{
+    matches!(finding.code, Code::Fault)
 }

@@ -140,14 +140,9 @@ fn data_as_objects(rt: HostRuntime) -> Result<(), Fail> {
     Objects.add(&mut out, Entry::Data(PLACE, &finding))?;
     let mut totals = Totals::default();
     totals.data.is_asked = true;
-    totals.data.add_entities(1);
-    totals.data.add_error();
-    totals.data.add_error();
-    totals.data.refuse();
+    totals.data.entities = 1;
+    totals.data.errors = 2;
     Objects.end(&mut out, &totals)?;
     assert_eq!(rt; out.as_str(), DATA.trim_start());
-    assert_eq!(rt; totals.status(false), 1);
-    totals.add_fault();
-    assert_eq!(rt; totals.status(false), 2);
     Ok(())
 }

@@ -1,5 +1,4 @@
 // Texts and counts of an output, in each format.
-use cedar_findings::arguments::Task;
 use cedar_findings::changes::{Change, Comparison};
 use cedar_findings::colours::Colours;
 use cedar_findings::columns::Columns;
@@ -154,31 +153,15 @@ fn comparison<'a>(alloc: Global, is_worse: bool) -> Result<Comparison<'a, 'a>, A
 #[test]
 fn changes(rt: HostRuntime) -> Result<(), Fail> {
     let alloc = rt.alloc();
-    for (is_worse, status, wanted) in [
-        (false, 0, "policies: 1, changed: 1, worse: 0, faults: 0\n"),
-        (true, 1, "policies: 1, changed: 1, worse: 1, faults: 0\n"),
+    for (is_worse, wanted) in [
+        (false, "policies: 1, changed: 1, worse: 0, faults: 0\n"),
+        (true, "policies: 1, changed: 1, worse: 1, faults: 0\n"),
     ] {
         let mut output = Output::new(alloc, Colours::None);
         output.changes.add(&comparison(alloc, is_worse)?);
         output.end_changes(alloc)?;
         assert_eq!(rt; output.shown(), wanted);
-        assert_eq!(rt; output.status(Task::Comparison, false), status);
-        assert_eq!(rt; output.status(Task::Validation, false), 0);
     }
-    Ok(())
-}
-
-/// A fault counts more than a policy that is worse off.
-#[test]
-fn statuses(rt: HostRuntime) -> Result<(), Fail> {
-    let alloc = rt.alloc();
-    let mut output = Output::new(alloc, Colours::None);
-    output.totals.warnings = 1;
-    assert_eq!(rt; output.status(Task::Comparison, false), 0);
-    assert_eq!(rt; output.status(Task::Validation, true), 1);
-    output.changes.add(&comparison(alloc, true)?);
-    output.totals.add_fault();
-    assert_eq!(rt; output.status(Task::Comparison, false), 2);
     Ok(())
 }
 

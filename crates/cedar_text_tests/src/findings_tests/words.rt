@@ -174,16 +174,6 @@ fn words_that_stand_for_others(rt: HostRuntime) -> Result<(), Fail> {
     check(&rt, show_task, &LINES)
 }
 
-/// Each status of the program, and the one of Cedar for it.
-#[test]
-fn statuses_side_by_side(rt: HostRuntime) -> Result<(), Fail> {
-    for (own, of_cedar) in [(0u8, 0u8), (1, 3), (2, 1)] {
-        assert_eq!(rt; Statuses::Own.of(own), own);
-        assert_eq!(rt; Statuses::Cedar.of(own), of_cedar);
-    }
-    Ok(())
-}
-
 /// No two words of the table share a name, and each name begins as an option does.
 #[test]
 fn names_are_of_one_word(rt: HostRuntime) -> Result<(), Fail> {

@@ -1,5 +1,6 @@
 // Verdicts of the library on texts.
 use crate::verdicts_tests::lines::Lines;
+use crate::verdicts_tests::said::status_of;
 use cedar_extensions::checks::Constructor;
 use cedar_extensions::functions::{Checks, functions, overloaded_types};
 use cedar_findings::schema_texts::SchemaTexts;
@@ -91,7 +92,7 @@ pub fn check_lines(
         writeln!(lines, "{line}")?;
     }
     assert_eq!(rt; said.shown.as_str(), lines.as_str(), "for {text}");
-    assert_eq!(rt; said.totals.status(false), status, "for {text}");
+    assert_eq!(rt; status_of(&said.totals, false), status, "for {text}");
     Ok(())
 }
 
@@ -104,7 +105,7 @@ pub fn check_line(
 ) -> Result<(), Fail> {
     let shown = said.shown.as_str();
     assert!(rt; said.has(wanted), "{wanted} is wanted, not {shown}");
-    assert_eq!(rt; said.totals.status(false), status, "for {wanted}");
+    assert_eq!(rt; status_of(&said.totals, false), status, "for {wanted}");
     Ok(())
 }
 

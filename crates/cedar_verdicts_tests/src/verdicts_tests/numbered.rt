@@ -1,5 +1,6 @@
 // Verdicts on many entities, each of which has a number.
 use crate::verdicts_tests::asked::{check_lines, said_of_data};
+use crate::verdicts_tests::said::status_of;
 use crate::verdicts_tests::tables::judged_data::DATA_SCHEMA;
 use std::process::Abort;
 use std::test::Fail;
@@ -43,6 +44,6 @@ fn more_faults_than_are_told(rt: HostRuntime) -> Result<(), Fail> {
     writeln!(wanted, "{more}\n{counts}")?;
     let said = said_of_data(alloc, DATA_SCHEMA, Some(text.as_str()), None)?;
     assert_eq!(rt; said.shown.as_str(), wanted.as_str());
-    assert_eq!(rt; said.totals.status(false), 2);
+    assert_eq!(rt; status_of(&said.totals, false), 2);
     Ok(())
 }

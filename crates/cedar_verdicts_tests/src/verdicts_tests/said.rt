@@ -1,6 +1,7 @@
 // Verdicts as the tests show them.
 use cedar_findings::findings::{Finding, Requirement, Verdict};
 use cedar_findings::schema_texts::SchemaTexts;
+use cedar_findings::totals::Totals;
 use cedar_types::base::{ValidationMode, ValidatorSchema};
 use cedar_verdicts::schemas::schema_or_faults;
 use cedar_verdicts::settings::Settings;
@@ -99,5 +100,15 @@ pub fn mode_of(name: &str) -> ValidationMode {
         "permissive" => ValidationMode::Permissive,
         "partial" => ValidationMode::Partial,
         _ => ValidationMode::Strict,
+    }
+}
+
+/// The exit status that these counts ask for: 2 for a fault, else 1 for a refused policy, refused data or a denied warning, else 0.
+pub fn status_of(totals: &Totals, denies_warnings: bool) -> u8 {
+    let is_refused = totals.refused > 0 || totals.data.is_refused;
+    if totals.faults > 0 {
+        2
+    } else {
+        u8::from(is_refused || denies_warnings && totals.warnings > 0)
     }
 }

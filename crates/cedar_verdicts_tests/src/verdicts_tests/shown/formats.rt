@@ -1,4 +1,5 @@
 // Findings in each format: lines, JSON and SARIF.
+use crate::verdicts_tests::said::status_of;
 use crate::verdicts_tests::shown::whole::{Texts, output_in};
 use crate::verdicts_tests::tables::formats::{
     COMMANDS, DATA_OBJECTS, DATA_RESULT, FAULTY_SCHEMA, POLICY_RESULTS, SCHEMA_FAULTS,
@@ -55,7 +56,7 @@ fn faults_of_a_schema(rt: HostRuntime) -> Result<(), Fail> {
             );
             assert!(rt; found.contains(*text), "{text} is wanted, not {found}");
         }
-        assert_eq!(rt; output.totals.status(false), 2, "{format}");
+        assert_eq!(rt; status_of(&output.totals, false), 2, "{format}");
     }
     Ok(())
 }
@@ -118,7 +119,7 @@ fn findings_in_data(rt: HostRuntime) -> Result<(), Fail> {
     };
     let objects = output_in(&rt, "json", texts)?;
     assert_eq!(rt; objects.shown(), DATA_OBJECTS);
-    assert_eq!(rt; objects.totals.status(false), 1);
+    assert_eq!(rt; status_of(&objects.totals, false), 1);
     let sarif = output_in(&rt, "sarif", texts)?;
     let results = lines_from(alloc, sarif.shown(), "{\"ruleId\":")?;
     assert_eq!(rt; results.len(), 1);
@@ -127,6 +128,6 @@ fn findings_in_data(rt: HostRuntime) -> Result<(), Fail> {
     }
     let has_rule = sarif.shown().contains("\n{\"id\":\"data-type\",");
     assert!(rt; has_rule, "the rule of the result is described");
-    assert_eq!(rt; sarif.totals.status(false), 1);
+    assert_eq!(rt; status_of(&sarif.totals, false), 1);
     Ok(())
 }

@@ -1,4 +1,5 @@
 // Lines of several types, of several environments, and of files in both syntaxes.
+use crate::verdicts_tests::said::status_of;
 use crate::verdicts_tests::shown::whole::{Texts, output_in};
 use crate::verdicts_tests::tables::schemas::SCHEMA;
 use crate::verdicts_tests::tables::teams::{JSON_BEFORE, JSON_BEHIND, TEAM};
@@ -95,7 +96,7 @@ fn files_in_both_syntaxes(rt: HostRuntime) -> Result<(), Fail> {
          -:1:2: policy `policy0`: accepted, level 1\n\
          policies: 3, accepted: 3, refused: 0, warnings: 0, faults: 0, level 1\n"
     );
-    assert_eq!(rt; output.totals.status(true), 0);
+    assert_eq!(rt; status_of(&output.totals, true), 0);
     Ok(())
 }
 
@@ -122,8 +123,8 @@ fn a_warning_in_json(rt: HostRuntime) -> Result<(), Fail> {
         shown.contains(warning.as_str()),
         "{warning} is wanted, not {shown}"
     );
-    assert_eq!(rt; output.totals.status(false), 0);
-    assert_eq!(rt; output.totals.status(true), 1);
+    assert_eq!(rt; status_of(&output.totals, false), 0);
+    assert_eq!(rt; status_of(&output.totals, true), 1);
     Ok(())
 }
 
@@ -141,6 +142,6 @@ fn an_error_in_json(rt: HostRuntime) -> Result<(), Fail> {
 {"kind":"summary","policies":1,"accepted":0,"refused":1,"warnings":0,"faults":0}
 "#
     );
-    assert_eq!(rt; output.totals.status(false), 1);
+    assert_eq!(rt; status_of(&output.totals, false), 1);
     Ok(())
 }
