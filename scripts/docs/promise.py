@@ -1,5 +1,5 @@
 """Makes what docs/PROMISE.md shows of the sources, the clauses of the promise and the definitions behind them, and what
-docs/THEOREMS.md shows: the other forms of the promise.
+docs/THEOREMS.md shows: the premises with their examples, and the other forms of the promise.
 
 A block of a page is a definition as it stands in its file, below a link. A definition that is renamed, or a clause that is gone,
 is a fault, and so is a page that lacks a block: scripts/pages.py says which. A definition that PROMISE says in words alone is
@@ -94,6 +94,14 @@ WORDS = {
         "ConformingStore": f"{TYPES}/Values/Stores.antt",
         "KeepsTable": f"{TYPING}/Evaluation/Conformance.antt",
     },
+}
+# The table of premises: the examples of each, which are policies.
+PREMISES, EXAMPLES = f"{TYPING}/Soundness/Policies.antt", f"{TYPING}/Examples/NeededPremises.antt"
+NEEDED = {
+    "IsSoundAndClosed": ("attribute_of_one", "guest_has_role"),
+    "IsNamedBySchema": ("of_unknown_type",),
+    "IsWellFormed": ("of_unknown", "slot_in_rest", "equal_to_slot"),
+    "IsConforming": ("robots_only", "young", "decimals_in_order"),
 }
 EVAL = f"{TYPING}/Evaluation/Eval.antt"
 # The forms of expressions of which the page shows how they are evaluated.
@@ -213,5 +221,15 @@ def makers():
     return {"promise_clauses": clauses, "promise_evaluation": evaluation, **shown, **tables}
 
 
-# The block of THEOREMS.
-FORM_MAKERS = {"other_forms": other_forms}
+def needed(files):
+    """The premises, each with the policies that go wrong if it does not hold."""
+    rows = []
+    for name, examples in NEEDED.items():
+        premise = definitions.find(files, PREMISES, name)
+        shown = "; ".join(definitions.find(files, EXAMPLES, example).sentence() for example in examples)
+        rows.append(f"| {premise.link(FOLDER)} | {listings.cell(premise.sentence())} | {listings.cell(shown)} |")
+    return ["| Premise | It asks | Without a part of it these go wrong |", "|---|---|---|", *rows]
+
+
+# The blocks of THEOREMS.
+FORM_MAKERS = {"other_forms": other_forms, "needed_premises": needed}
