@@ -125,9 +125,12 @@ class Callers:
             ran(program, kib, call, *files, env=self.env)
 
     def python(self):
-        """The tests of the package."""
+        """The tests of the package, and the example of docs/LANGUAGES.md, whose answer has one error: `vip` may be missing."""
         env = {**self.env, "PYTHONDONTWRITEBYTECODE": "1"}
         ran(sys.executable, "-m", "unittest", "discover", "--pattern", "test*.py", folder=BINDINGS / "python", env=env)
+        printed = ran(sys.executable, TOP / "examples" / "languages" / "first.py", env={**env, "PYTHONPATH": str(BINDINGS / "python")})
+        if printed.count("\n") != 1 or not printed.startswith("vips unguarded-attribute "):
+            raise ValueError(f"examples/languages/first.py prints {printed}")
 
     def applications(self):
         """Each application is answered as cedar-validate says it, and by another build byte for byte alike."""
