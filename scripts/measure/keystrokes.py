@@ -6,8 +6,8 @@ sessions on files, by a schema of 300 actions that share their types. A session 
 figure of a keystroke is that of one more change, which writes one character more into the condition of a policy in the middle,
 about one action or about all. The editor sends each change as a range or as the whole text. Hover, completion and definition are
 asked once more each. Large changes are measured too: a whole text in which each policy is another, a notification of many ranges, and
-a letter among policies that all have a fault and stand on one line. Behind each message stands a question, because changes that wait
-are taken together; the seconds of a hover are measured that stands behind many letters. The memory of 10,000 changes is held by
+a letter among policies that all have a fault and stand on one line. Behind each notification stands a question, because changes that
+wait are taken together; the seconds of a hover are measured that stands behind many letters. The memory of 10,000 changes is held by
 scripts/editor_cases.py. It needs valgrind, and is no part of the gate.
 """
 import subprocess
@@ -64,9 +64,9 @@ def session(bench, policies, middle, changes=0, by_ranges=True, asked=()):
 
 
 def instructions(bench, sent):
-    """The instructions of a session in which these messages are sent, a question behind each, and then those that end it."""
-    settled = request(9, "x/settled")
-    given = b"".join(frame(it) for message in (*sent, request(10, "shutdown")) for it in (message, settled)) + frame(note("exit"))
+    """The instructions of a session in which these messages are sent, a question behind each notification, and then those that end it."""
+    settled = [it for message in sent for it in ([message] if "id" in message else [message, request(8, "x/settled")])]
+    given = b"".join(map(frame, [*settled, request(10, "shutdown"), note("exit")]))
     below = valgrind("cachegrind", "--cache-sim=no", "--cachegrind-out-file=/dev/null")
     done = subprocess.run([*below, bench.program], cwd=bench.room, input=given, capture_output=True)
     if done.returncode:
