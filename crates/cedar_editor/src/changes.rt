@@ -5,6 +5,7 @@ ghost use Rattle.cedar_editor.specs.Documents.{is_said_by, moved_policy, placed_
 use crate::checks::{CheckedPolicy, judged, unjudged};
 use crate::documents::PlacedPolicy;
 use crate::judges::Judge;
+use crate::known::Known;
 use crate::lines::moved;
 use crate::readings::{Reading, is_read_alone, read_policy, reading_of};
 use crate::tokens::behind_blanks;
@@ -172,9 +173,10 @@ pub fn add_policies<C: ArgumentCheck>(
     ensures placed { OnOk result (AllStandIn text.now policies.old.items
         → AllStandIn text.now policies.new.items) }
 {
+    let known = Known::new(alloc, known, found.len())?;
     for Found { place, read } in found {
         let own = part_at(text, place);
-        let Some(policy) = policy_of(alloc, judge, own, read, known)? else {
+        let Some(policy) = policy_of(alloc, judge, own, read, &known)? else {
             continue;
         };
         policies.push(PlacedPolicy {
@@ -198,17 +200,15 @@ fn policy_of<C: ArgumentCheck>(
     judge: &Judge<'_, C>,
     own: &str,
     read: Option<Result<ReadPolicy, FaultyPolicy>>,
-    known: &[PlacedPolicy],
+    known: &Known<'_>,
 ) -> Result<Option<Rc<CheckedPolicy>>, AllocError>
-    ensures right { IfOk result (λ found. AreRightlySaidBy C.refusal judge.now known.now
-        → IfSome found (λ policy. is_said_by C.refusal judge.now policy.value)) }
+    ensures right { IfOk result (λ found.
+        AreRightlySaidBy C.refusal judge.now known.now.policies.now → IfSome found (λ policy. is_said_by C.refusal judge.now policy.value)) }
     ensures text { IfOk result (λ found. IfSome found (λ policy.
         string_bytes policy.value.text ≡ own.now)) }
 {
-    for placed in known {
-        if placed.policy.text.as_str() == own {
-            return Ok(Some(placed.policy.clone()?));
-        }
+    if let Some(placed) = known.with_text(own) {
+        return Ok(Some(placed.policy.clone()?));
     }
     let Some(reading) = reading_in(alloc, judge.functions(), own, read)? else {
         return Ok(None);

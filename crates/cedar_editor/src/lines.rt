@@ -100,7 +100,7 @@ impl Lines {
     }
 
     /// The line of a byte: the last one that begins at the byte or before it.
-    fn line_of(&self, byte: usize) -> usize
+    pub(crate) fn line_of(&self, byte: usize) -> usize
         ensures declared { result ≤ length self.now.starts.items }
         ensures begun { start_in self.now.starts.items result ≤ byte }
         ensures over { result < length self.now.starts.items

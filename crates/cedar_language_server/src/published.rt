@@ -110,9 +110,7 @@ fn notification(
     if !note.is_empty() {
         written.note(origin, note)?;
     }
-    for it in told {
-        written.diagnostic(origin, it)?;
-    }
+    written.diagnostics(origin, told)?;
     written.end_published()?;
     Ok(written.out)
 }

@@ -7,6 +7,7 @@ use cedar_findings::syntaxes::Syntax;
 use cedar_types::base::{ExtensionSchemas, Loc};
 use std::alloc::{AllocError, Global};
 use std::process::Abort;
+use std::rc::Rc;
 use std::test::Fail;
 
 /// A change: the first place of a part in a text is given another text.
@@ -248,4 +249,39 @@ fn places_that_are_no_part(rt: HostRuntime) -> Result<(), Fail> {
         "// e\nforbid(principal, action, resource);"
     );
     Ok(())
+}
+
+/// The text of twelve policies, from the first or from the last on.
+fn text_of_twelve(alloc: Global, is_reversed: bool) -> Result<String, AllocError> {
+    let mut text = String::new(alloc);
+    for at in 0..12usize {
+        let number = if is_reversed { 11 - at } else { at };
+        writeln!(
+            text,
+            "@id(\"p{number}\") forbid(principal, action, resource);"
+        )?;
+    }
+    Ok(text)
+}
+
+/// Policies that only change their places are not read again.
+#[test]
+fn policies_in_another_order(rt: HostRuntime) -> Result<(), Fail> {
+    let alloc = rt.alloc();
+    let extensions = ExtensionSchemas::default(alloc);
+    let schema = SchemaDocument::new(alloc, &extensions, Syntax::Cedar, SCHEMA)?;
+    let text = text_of_twelve(alloc, false)?;
+    let mut document = document_by(alloc, &schema, text.as_str())?;
+    let mut before = Vec::new(alloc);
+    for placed in document.policies() {
+        before.push(placed.policy.clone()?)?;
+    }
+    let text = text_of_twelve(alloc, true)?;
+    document.replace(alloc, text.as_str())?;
+    assert_eq!(rt; document.policies().len(), before.len());
+    for (placed, old) in document.policies().iter().zip(before.iter().rev()) {
+        assert!(rt; Rc::ptr_eq(&placed.policy, old));
+    }
+    let fresh = document_by(alloc, &schema, text.as_str())?;
+    check(&rt, &document, &fresh, before.len(), &[])
 }

@@ -11,7 +11,7 @@ use std::test::Fail;
 type Row = (Option<(usize, usize, usize, usize)>, &'static str);
 
 /// Texts, their edits, and the texts behind those.
-const EDITS: [(&str, &[Row], &str); 11] = [
+const EDITS: [(&str, &[Row], &str); 12] = [
     ("ab", &[], "ab"),
     ("ab", &[(None, "cd")], "cd"),
     ("ab\ncd", &[(Some((0, 1, 0, 1)), "X")], "aXb\ncd"),
@@ -22,6 +22,18 @@ const EDITS: [(&str, &[Row], &str); 11] = [
         "ab",
         &[(Some((0, 0, 0, 0)), "x\n"), (Some((1, 1, 1, 2)), "")],
         "x\na",
+    ),
+    (
+        "ab\ncd\nef",
+        &[
+            (Some((2, 1, 2, 1)), "X"),
+            (Some((0, 1, 0, 1)), "Y\n"),
+            (Some((3, 1, 3, 2)), "\r"),
+            (Some((4, 0, 4, 0)), "\n"),
+            (Some((1, 1, 2, 0)), ""),
+            (Some((3, 1, 3, 1)), "!"),
+        ],
+        "aY\nbcd\ne\r\nf!",
     ),
     ("zz", &[(None, "é𝒳c"), (Some((0, 1, 0, 3)), "-")], "é-c"),
     ("zz", &[(Some((0, 0, 0, 1)), "y"), (None, "whole")], "whole"),

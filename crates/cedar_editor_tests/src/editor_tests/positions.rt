@@ -1,6 +1,8 @@
 // Positions of bytes, and the bytes at positions.
-use cedar_editor::lines::{Lines, Position};
+use cedar_editor::lines::{Lines, Position, Range};
 use cedar_editor::offsets::{bytes_before, units_of};
+use cedar_editor::walks::Walk;
+use cedar_types::base::Loc;
 use std::test::Fail;
 
 /// Texts, and the numbers of their units of UTF-16.
@@ -107,6 +109,45 @@ fn positions_and_bytes(rt: HostRuntime) -> Result<(), Fail> {
             *byte,
             "{position:?} of {text:?}"
         );
+    }
+    Ok(())
+}
+
+/// A walk gives each position, whichever one it gave before.
+#[test]
+fn positions_of_a_walk(rt: HostRuntime) -> Result<(), Fail> {
+    let alloc = rt.alloc();
+    for (text, start, line, unit) in &POSITIONS {
+        let lines = Lines::new(alloc, text)?;
+        let first = Position {
+            line: *line,
+            unit: *unit,
+        };
+        for (other, end, line, unit) in &POSITIONS {
+            if text != other {
+                continue;
+            }
+            let last = Position {
+                line: *line,
+                unit: *unit,
+            };
+            let mut walk = Walk::new(&lines, text);
+            assert_eq!(rt; walk.position(*start), first, "{start} of {text:?}");
+            assert_eq!(rt;
+                walk.position(*end),
+                last,
+                "{end} behind {start} of {text:?}"
+            );
+            let place = Loc {
+                start: *start,
+                end: *end,
+            };
+            let range = Range {
+                start: first,
+                end: last,
+            };
+            assert_eq!(rt; walk.range(place), range, "{place:?} of {text:?}");
+        }
     }
     Ok(())
 }
