@@ -1,10 +1,14 @@
 //! Completions: names that may be written at a position.
 use crate::checks::CheckedPolicy;
-use crate::expected::{Expected, end_of_id, expected_at, is_in_name};
+use crate::expected::{Expected, end_of_id, expected_behind, name_start, tokens_of};
+use crate::items::{
+    Form, Item, ItemKind, OF_SETS, OPERANDS, add_actions, add_all, add_entities, add_entity_types,
+    writing_of,
+};
 use crate::members::{Member, member_of, owner_type};
 use crate::readings::read_policy;
 use crate::spots::{Spot, spot_at};
-use crate::tokens::is_in_word;
+use crate::tokens::{TokenKind, is_in_word};
 use crate::typed_parts::{TypedPart, types_of};
 use cedar_types::base::{ArgumentCheck, CedarType, Loc, Template, ValidatorSchema};
 use cedar_verdicts::settings::Settings;
@@ -15,44 +19,6 @@ use std::rc::RcStr;
 /// The name that stands for a name that is not written yet.
 const PLACEHOLDER: &str = "not_written_yet";
 
-/// Operands that may be written whatever the schema declares, each with its detail.
-const OPERANDS: [(&str, &str); 8] = [
-    ("principal", "who wants to act"),
-    ("action", "what they want to do"),
-    ("resource", "what they want to do it to"),
-    ("context", "what else the request says"),
-    ("ip", "ip(\"10.0.0.0/8\"): ipaddr"),
-    ("decimal", "decimal(\"1.5\"): decimal"),
-    ("datetime", "datetime(\"2024-10-15\"): datetime"),
-    ("duration", "duration(\"1h30m\"): duration"),
-];
-
-/// Methods of a set, which stand after `.`, each with its detail.
-const OF_SETS: [(&str, &str); 4] = [
-    ("contains", "contains(element): Bool"),
-    ("containsAll", "containsAll(set): Bool"),
-    ("containsAny", "containsAny(set): Bool"),
-    ("isEmpty", "isEmpty(): Bool"),
-];
-
-/// The kind of an item.
-#[derive(Clone, Copy, PartialEq, Eq, Debug)]
-pub enum ItemKind {
-    Attribute,
-    Operand,
-    EntityType,
-    Action,
-    Method,
-}
-
-/// A name that may be written.
-#[derive(Drop)]
-pub struct Item {
-    pub label: String,
-    pub kind: ItemKind,
-    pub detail: String,
-}
-
 /// The items that may be written at a place of a policy.
 #[derive(Drop)]
 pub struct Completion {
@@ -61,8 +27,21 @@ pub struct Completion {
     pub items: Vec<Item>,
 }
 
-/// The completion at a byte of a policy: the items that may be written there. If memory is refused, the answer is an
-/// `AllocError`.
+/// A name that is written so far.
+#[derive(Clone, Copy)]
+struct Begun {
+    /// The place of the name in the text that is read.
+    own: Loc,
+    /// The place of the name in the policy.
+    place: Loc,
+    /// The byte at which the mark or the word before the name begins.
+    before: usize,
+    /// The name is a text in quotes.
+    is_quoted: bool,
+}
+
+/// The completion at a byte of a policy: the items that may be written there. Each is read as the name that it shows. If memory
+/// is refused, the answer is an `AllocError`.
 pub fn completion_at<C: ArgumentCheck>(
     alloc: Global,
     settings: &Settings<'_, C>,
@@ -70,66 +49,77 @@ pub fn completion_at<C: ArgumentCheck>(
     byte: usize,
 ) -> Result<Completion, AllocError> {
     let own = policy.text.as_str();
-    if byte <= own.len() {
-        return completion_in(alloc, settings, own, byte);
+    if let Some(before) = own.get(..byte) {
+        return completion_behind(alloc, settings, own, before, 0);
     }
     // a blank stands for those between the text of the policy and the byte
     let text = format!(in alloc; "{own} ")?;
-    let Completion { items, .. } = completion_in(alloc, settings, text.as_str(), text.len())?;
-    let place = Loc {
-        start: byte,
-        end: byte,
-    };
-    Ok(Completion { place, items })
+    let moved = byte.saturating_sub(text.len());
+    completion_behind(alloc, settings, text.as_str(), text.as_str(), moved)
 }
 
-/// The completion at a byte of a policy's text.
-fn completion_in<C: ArgumentCheck>(
+/// The completion behind the beginning of a policy's text. Places behind it are moved by so many bytes.
+fn completion_behind<C: ArgumentCheck>(
     alloc: Global,
     settings: &Settings<'_, C>,
     text: &str,
-    byte: usize,
+    front: &str,
+    moved: usize,
 ) -> Result<Completion, AllocError> {
-    let before = text.get(..byte).unwrap_or("");
-    let schema = settings.validator.schema();
-    let word = before.trim_end_matches(is_in_word).len();
-    let name = before.trim_end_matches(is_in_name).len();
-    let mut items = Vec::new(alloc);
-    let expected = match expected_at(alloc, text.get(..word).unwrap_or(""))? {
-        // a name may have `::` or an open quote in it, so the text before the whole name decides
-        Expected::Operand => expected_at(alloc, text.get(..name).unwrap_or(""))?,
-        known => known,
-    };
+    let byte = front.len();
+    let tokens = tokens_of(alloc, front)?;
+    let name = name_start(tokens.as_slice(), byte);
+    let count = tokens.iter().take_while(|it| it.place.start < name).count();
+    let expected = expected_behind(tokens.get(..count).unwrap_or(&[]));
     let start = match expected {
-        Expected::Member | Expected::Attribute => {
-            let written = Loc {
-                start: word,
-                end: byte,
-            };
-            add_members(alloc, settings, text, written, &mut items)?;
-            word
-        }
-        Expected::EntityType => {
-            add_entity_types(alloc, schema, &mut items)?;
-            name
-        }
-        Expected::Action => {
-            add_actions(alloc, schema, &mut items)?;
-            name
-        }
-        Expected::Operand => {
-            add_all(alloc, ItemKind::Operand, &OPERANDS, &mut items)?;
-            word
-        }
-        Expected::Nothing => word,
+        Expected::Operand | Expected::Nothing => front.trim_end_matches(is_in_word).len(),
+        _ => name,
     };
-    let written = Loc { start, end: byte };
-    let end = match expected {
-        Expected::Action => end_of_id(text, written),
-        _ => byte,
+    let own = Loc {
+        start,
+        end: end_of_id(text, Loc { start, end: byte }),
     };
-    let place = Loc { start, end };
-    Ok(Completion { place, items })
+    let begun = Begun {
+        own,
+        place: Loc {
+            start: own.start.saturating_add(moved),
+            end: own.end.saturating_add(moved),
+        },
+        before: match count.checked_sub(1).and_then(|last| tokens.get(last)) {
+            Some(token) => token.place.start,
+            None => 0,
+        },
+        is_quoted: match tokens.get(count) {
+            Some(token) => token.kind == TokenKind::Text,
+            None => false,
+        },
+    };
+    let mut items = Vec::new(alloc);
+    add_items(alloc, settings, text, expected, begun, &mut items)?;
+    Ok(Completion {
+        place: begun.place,
+        items,
+    })
+}
+
+/// Adds the items of the kind that is expected.
+fn add_items<C: ArgumentCheck>(
+    alloc: Global,
+    settings: &Settings<'_, C>,
+    text: &str,
+    expected: Expected,
+    begun: Begun,
+    items: &mut Vec<Item>,
+) -> Result<(), AllocError> {
+    let schema = settings.validator.schema();
+    match expected {
+        Expected::Member | Expected::Attribute => add_members(alloc, settings, text, begun, items),
+        Expected::EntityType => add_entity_types(alloc, schema, items),
+        Expected::Entity => add_entities(alloc, schema, begun.place, items),
+        Expected::Action => add_actions(alloc, schema, items),
+        Expected::Operand => add_all(alloc, ItemKind::Operand, &OPERANDS, begun.place, items),
+        Expected::Nothing => Ok(()),
+    }
 }
 
 /// Adds the attributes of the expression before a name, and after `.` also its methods: each that one of its types has.
@@ -137,11 +127,11 @@ fn add_members<C: ArgumentCheck>(
     alloc: Global,
     settings: &Settings<'_, C>,
     text: &str,
-    written: Loc,
+    begun: Begun,
     items: &mut Vec<Item>,
 ) -> Result<(), AllocError> {
-    let front = text.get(..written.start).unwrap_or("");
-    let behind = text.get(written.end..).unwrap_or("");
+    let front = text.get(..begun.own.start).unwrap_or("");
+    let behind = text.get(begun.own.end..).unwrap_or("");
     let rest = behind.trim_start_matches(is_in_word);
     let whole = format!(in alloc; "{front}{PLACEHOLDER}{rest}")?;
     let functions = settings.validator.extensions();
@@ -149,24 +139,24 @@ fn add_members<C: ArgumentCheck>(
         return Ok(());
     };
     let template = reading.into_template();
-    add_members_of(alloc, settings, &template, written.start, items)
+    add_members_of(alloc, settings, &template, begun, items)
 }
 
-/// Adds the members that the placeholder at a byte of a policy may stand for.
+/// Adds the members that the placeholder in a policy may stand for.
 fn add_members_of<C: ArgumentCheck>(
     alloc: Global,
     settings: &Settings<'_, C>,
     template: &Template,
-    at: usize,
+    begun: Begun,
     items: &mut Vec<Item>,
 ) -> Result<(), AllocError> {
     let Some(condition) = &template.non_scope_constraints else {
         return Ok(());
     };
-    let Some(spot) = spot_at(alloc, condition, at)? else {
+    let Some(spot) = spot_at(alloc, condition, begun.own.start)? else {
         return Ok(());
     };
-    add_members_at(alloc, settings, template, &spot, items)
+    add_members_at(alloc, settings, template, &spot, begun, items)
 }
 
 /// Adds the members that the placeholder at a spot may stand for.
@@ -175,6 +165,7 @@ fn add_members_at<C: ArgumentCheck>(
     settings: &Settings<'_, C>,
     template: &Template,
     spot: &Spot<'_>,
+    begun: Begun,
     items: &mut Vec<Item>,
 ) -> Result<(), AllocError> {
     let Some(member) = member_of(spot.part) else {
@@ -192,9 +183,9 @@ fn add_members_at<C: ArgumentCheck>(
         spot.guards.as_slice(),
         member.base,
     )? {
-        add_attributes(alloc, schema, &typed, member, &mut found)?;
+        add_attributes(alloc, schema, &typed, member, begun, &mut found)?;
         if member.is_access && matches!(&typed.ty, CedarType::Set(_) | CedarType::AnySet) {
-            add_all(alloc, ItemKind::Method, &OF_SETS, items)?;
+            add_all(alloc, ItemKind::Method, &OF_SETS, begun.place, items)?;
         }
     }
     for (_, item) in found {
@@ -203,19 +194,39 @@ fn add_members_at<C: ArgumentCheck>(
     Ok(())
 }
 
+/// The form in which an attribute is written in the place of a name.
+fn form_of(member: Member<'_>, begun: Begun) -> Form {
+    if member.is_access {
+        Form::Access {
+            point: begun.before,
+        }
+    } else if member.first.is_some() {
+        Form::FurtherTest
+    } else if begun.is_quoted {
+        Form::QuotedTest
+    } else {
+        Form::Test
+    }
+}
+
 /// Adds the attributes of a type, each with its own type. The detail of an optional one says whether `has` must guard it.
 fn add_attributes(
     alloc: Global,
     schema: &ValidatorSchema,
     typed: &TypedPart,
     member: Member<'_>,
+    begun: Begun,
     found: &mut BTreeMap<RcStr, Item>,
 ) -> Result<(), AllocError> {
     let Some(owner) = owner_type(alloc, schema, &typed.ty, member)? else {
         return Ok(());
     };
+    let form = form_of(member, begun);
     let attributes = owner.attributes(alloc, schema)?;
     for (name, attribute) in attributes.attrs.iter() {
+        let Some(writing) = writing_of(alloc, form, begun.place, name.as_str())? else {
+            continue;
+        };
         let is_known = member.first.is_none() && typed.known.iter().any(|it| it == name);
         let note = match (attribute.is_required, is_known) {
             (true, _) => "",
@@ -227,55 +238,9 @@ fn add_attributes(
             label: String::from_str(alloc, name.as_str())?,
             kind: ItemKind::Attribute,
             detail: format!(in alloc; "{ty}{note}")?,
+            writing,
         };
         found.insert(name.clone()?, item)?;
-    }
-    Ok(())
-}
-
-fn add_entity_types(
-    alloc: Global,
-    schema: &ValidatorSchema,
-    items: &mut Vec<Item>,
-) -> Result<(), AllocError> {
-    for name in schema.entity_type_names(alloc)? {
-        items.push(Item {
-            label: name.to_string(alloc)?,
-            kind: ItemKind::EntityType,
-            detail: String::from_str(alloc, "entity type")?,
-        })?;
-    }
-    Ok(())
-}
-
-fn add_actions(
-    alloc: Global,
-    schema: &ValidatorSchema,
-    items: &mut Vec<Item>,
-) -> Result<(), AllocError> {
-    for action in schema.action_ids(alloc)? {
-        items.push(Item {
-            label: action.name.to_string(alloc)?,
-            kind: ItemKind::Action,
-            detail: String::from_str(alloc, "action")?,
-        })?;
-    }
-    Ok(())
-}
-
-/// Adds the items of a table.
-fn add_all(
-    alloc: Global,
-    kind: ItemKind,
-    table: &[(&'static str, &'static str)],
-    items: &mut Vec<Item>,
-) -> Result<(), AllocError> {
-    for (label, detail) in table {
-        items.push(Item {
-            label: String::from_str(alloc, label)?,
-            kind,
-            detail: String::from_str(alloc, detail)?,
-        })?;
     }
     Ok(())
 }

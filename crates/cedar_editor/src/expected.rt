@@ -10,30 +10,47 @@ pub enum Expected {
     Member,
     /// An attribute, after `has`.
     Attribute,
+    /// An entity type, after `is`.
     EntityType,
+    /// An entity, which is compared.
+    Entity,
     Action,
     Operand,
     /// No name, because the policy has ended.
     Nothing,
 }
 
-/// The kind of name that may stand behind a text, which begins as a policy does.
-pub fn expected_at(alloc: Global, before: &str) -> Result<Expected, AllocError> {
+/// The tokens of a text.
+pub fn tokens_of(alloc: Global, text: &str) -> Result<Vec<Token<'_>>, AllocError> {
     let mut tokens: Vec<Token<'_>> = Vec::new(alloc);
     let mut at = 0usize;
-    for _ in 0..before.len() {
-        let token = token_from(before, at);
+    for _ in 0..text.len() {
+        let token = token_from(text, at);
         if token.kind == TokenKind::End {
             break;
         }
         tokens.push(token)?;
         at = token.place.end;
     }
-    Ok(expected_behind(tokens.as_slice()))
+    Ok(tokens)
 }
 
-/// The kind of name that may stand behind these tokens.
-fn expected_behind(tokens: &[Token<'_>]) -> Expected {
+/// The byte at which a name begins that ends with these tokens, at this byte: words with `::` between them, and an id in quotes,
+/// of which the last may be missing.
+pub fn name_start(tokens: &[Token<'_>], end: usize) -> usize {
+    let mut start = end;
+    for token in tokens.iter().rev() {
+        let is_part = token.is("::") || matches!(token.kind, TokenKind::Text | TokenKind::Word);
+        if !is_part || token.place.end != start {
+            break;
+        }
+        start = token.place.start;
+    }
+    start
+}
+
+/// The kind of name that may stand behind tokens with which a policy begins.
+pub fn expected_behind(tokens: &[Token<'_>]) -> Expected {
     let mut is_compared = false;
     // a comma stands between names that are compared only inside of brackets
     let mut is_behind_comma = false;
@@ -43,17 +60,17 @@ fn expected_behind(tokens: &[Token<'_>]) -> Expected {
             ";" => return Expected::Nothing,
             "." if !is_passed => return Expected::Member,
             "has" if !is_passed => return Expected::Attribute,
-            "is" if !is_behind_comma => return Expected::EntityType,
+            "is" if !is_passed => return Expected::EntityType,
+            "is" if !is_behind_comma => return Expected::Entity,
             "action" if is_compared && !is_behind_comma => return Expected::Action,
-            "principal" | "resource" if is_compared && !is_behind_comma => {
-                return Expected::EntityType;
-            }
-            "==" | "in" | "::" => is_compared = true,
+            "principal" | "resource" if is_compared && !is_behind_comma => return Expected::Entity,
+            "==" | "in" => is_compared = true,
             "," => is_behind_comma = true,
             "[" => {
                 is_compared = true;
                 is_behind_comma = false;
             }
+            "::" if is_passed => {}
             _ if is_passed && matches!(token.kind, TokenKind::Text | TokenKind::Word) => {}
             _ => return Expected::Operand,
         }
@@ -73,9 +90,4 @@ pub fn end_of_id(text: &str, written: Loc) -> usize {
     }
     let word = behind.len().saturating_sub(rest.len());
     written.end.saturating_add(word).saturating_add(1)
-}
-
-/// Whether a character may stand in a name with `::` and a quote.
-pub fn is_in_name(c: char) -> bool {
-    is_in_word(c) || c == ':' || c == '"'
 }

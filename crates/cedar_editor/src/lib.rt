@@ -14,6 +14,7 @@ pub mod examples;
 mod expected;
 pub mod fixes;
 pub mod hovers;
+pub mod items;
 pub mod judges;
 mod known;
 pub mod lines;

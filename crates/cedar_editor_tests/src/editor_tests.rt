@@ -12,3 +12,4 @@ mod outlines;
 mod positions;
 mod schemas;
 mod small_changes;
+mod writings;

@@ -15,6 +15,7 @@ use cedar_editor::symbols::{policy_symbols, schema_symbols};
 use cedar_findings::findings::{Finding, Severity};
 use cedar_types::base::{ArgumentCheck, Loc};
 use std::alloc::AllocError;
+use std::slice;
 
 /// The outcome of a question: a value of JSON, or a refusal.
 type Outcome = Result<Result<String, Refusal>, AllocError>;
@@ -178,9 +179,8 @@ impl<'e, C: ArgumentCheck> Workspace<'e, C> {
             return self.nothing(Question::Completion);
         };
         let found = completion_at(self.alloc, &settings, asked.placed.policy(), asked.byte)?;
-        let place = asked.placed.place(found.place);
         let mut written = Written::new(self.alloc);
-        written.completion(&asked.origin(), place, &found)?;
+        written.completion(self.alloc, &asked.origin(), asked.placed, &found)?;
         Ok(Ok(written.out))
     }
 
@@ -210,7 +210,8 @@ impl<'e, C: ArgumentCheck> Workspace<'e, C> {
         let places = definitions_at(self.alloc, settings.as_ref(), own, policy, asked.byte)?;
         let uri = self.uri_of_schema(path)?;
         for place in places {
-            written.location(&origin_of(uri.as_str(), own), place)?;
+            let range = own.range(place);
+            written.location(uri.as_str(), range)?;
         }
         Ok(())
     }
@@ -249,7 +250,7 @@ impl<'e, C: ArgumentCheck> Workspace<'e, C> {
         let origin = asked.origin();
         let told = of_finding(self.alloc, asked.placed, Severity::Error, finding)?;
         written.begin_fix(fix.title.as_str())?;
-        written.diagnostic(&origin, &told)?;
+        written.diagnostics(&origin, slice::from_ref(&told))?;
         let place: Loc = asked.placed.place(fix.place);
         written.end_fix(&origin, place, fix.text.as_str())
     }

@@ -1,9 +1,12 @@
 // Values of the protocol, written as JSON for the editor.
-use cedar_editor::completions::{Completion, ItemKind};
+use cedar_editor::completions::Completion;
 use cedar_editor::diagnostics::Diagnostic;
+use cedar_editor::documents::PlacedPolicy;
+use cedar_editor::items::ItemKind;
 use cedar_editor::lines::{Lines, Position, Range};
 use cedar_editor::outlines::DeclaredKind;
 use cedar_editor::symbols::{Symbol, SymbolKind};
+use cedar_editor::walks::Walk;
 use cedar_findings::findings::Severity;
 use cedar_findings::json::JsonWriter;
 use cedar_types::base::Loc;
@@ -27,6 +30,13 @@ impl Origin<'_> {
     /// The range of a place of the document.
     pub fn range(&self, place: Loc) -> Range {
         self.lines.range(self.text, place)
+    }
+}
+
+impl<'a> Origin<'a> {
+    /// A walk over the positions of the document.
+    pub fn walk(self) -> Walk<'a> {
+        Walk::new(self.lines, self.text)
     }
 }
 
@@ -65,11 +75,11 @@ impl Written {
         self.json.end_object(&mut self.out)
     }
 
-    /// Adds a place of a document as an object.
-    pub fn location(&mut self, origin: &Origin<'_>, place: Loc) -> Result<(), AllocError> {
+    /// Adds a range of a document as an object.
+    pub fn location(&mut self, uri: &str, range: Range) -> Result<(), AllocError> {
         self.json.begin_object(&mut self.out)?;
-        self.json.text_at(&mut self.out, "uri", origin.uri)?;
-        self.range_at("range", origin.range(place))?;
+        self.json.text_at(&mut self.out, "uri", uri)?;
+        self.range_at("range", range)?;
         self.json.end_object(&mut self.out)
     }
 
@@ -108,22 +118,47 @@ impl Written {
         self.json.end_object(&mut self.out)
     }
 
-    /// Adds a diagnostic, at its place.
-    pub fn diagnostic(&mut self, origin: &Origin<'_>, told: &Diagnostic) -> Result<(), AllocError> {
+    /// Adds diagnostics, each at its place. They come in the order of the text, and so do the places of the others.
+    pub fn diagnostics(
+        &mut self,
+        origin: &Origin<'_>,
+        told: &[Diagnostic],
+    ) -> Result<(), AllocError> {
+        let mut own = origin.walk();
+        let mut others = origin.walk();
+        for it in told {
+            let range = own.range(it.place);
+            let other = match it.other {
+                Some(place) => Some(others.range(place)),
+                None => None,
+            };
+            self.diagnostic(origin.uri, range, it, other)?;
+        }
+        Ok(())
+    }
+
+    /// Adds a diagnostic at a range, with the range that it is also about.
+    fn diagnostic(
+        &mut self,
+        uri: &str,
+        range: Range,
+        told: &Diagnostic,
+        other: Option<Range>,
+    ) -> Result<(), AllocError> {
         self.json.begin_object(&mut self.out)?;
-        self.range_at("range", origin.range(told.place))?;
+        self.range_at("range", range)?;
         let severity = severity_number(told.severity);
         self.json.number_at(&mut self.out, "severity", severity)?;
         self.json.text_at(&mut self.out, "source", "cedar")?;
         self.json.text_at(&mut self.out, "code", told.code.text())?;
         self.json
             .text_at(&mut self.out, "message", told.message.as_str())?;
-        if let Some(other) = told.other {
+        if let Some(range) = other {
             self.json.key(&mut self.out, "relatedInformation")?;
             self.json.begin_list(&mut self.out)?;
             self.json.begin_object(&mut self.out)?;
             self.json.key(&mut self.out, "location")?;
-            self.location(origin, other)?;
+            self.location(uri, range)?;
             self.json
                 .text_at(&mut self.out, "message", "the other policy")?;
             self.json.end_object(&mut self.out)?;
@@ -144,14 +179,15 @@ impl Written {
         self.json.end_object(&mut self.out)
     }
 
-    /// Adds the items of a completion, each with the edit that writes it at a place.
+    /// Adds the items of a completion in a policy, each with the edit that writes it.
     pub fn completion(
         &mut self,
+        alloc: Global,
         origin: &Origin<'_>,
-        place: Loc,
+        placed: &PlacedPolicy,
         completion: &Completion,
     ) -> Result<(), AllocError> {
-        let range = origin.range(place);
+        let range = origin.range(placed.place(completion.place));
         let is_incomplete = completion.items.len() > MAX_ITEMS;
         self.json.begin_object(&mut self.out)?;
         self.json.key(&mut self.out, "isIncomplete")?;
@@ -159,19 +195,36 @@ impl Written {
         self.json.key(&mut self.out, "items")?;
         self.json.begin_list(&mut self.out)?;
         for item in completion.items.iter().take(MAX_ITEMS) {
-            let label = item.label.as_str();
             self.json.begin_object(&mut self.out)?;
-            self.json.text_at(&mut self.out, "label", label)?;
+            self.json
+                .text_at(&mut self.out, "label", item.label.as_str())?;
             self.json
                 .number_at(&mut self.out, "kind", item_number(item.kind))?;
             self.json
                 .text_at(&mut self.out, "detail", item.detail.as_str())?;
-            self.json.key(&mut self.out, "textEdit")?;
-            self.edit(range, label)?;
+            match &item.writing {
+                // editors compare the replaced text, of which the `.` is the beginning, with `filterText`
+                Some(writing) if writing.place != completion.place => {
+                    let own = origin.range(placed.place(writing.place));
+                    let label = item.label.as_str();
+                    let filter = format!(in alloc; ".{label}")?;
+                    self.json
+                        .text_at(&mut self.out, "filterText", filter.as_str())?;
+                    self.edit_at("textEdit", own, writing.text.as_str())?;
+                }
+                Some(writing) => self.edit_at("textEdit", range, writing.text.as_str())?,
+                None => self.edit_at("textEdit", range, item.label.as_str())?,
+            }
             self.json.end_object(&mut self.out)?;
         }
         self.json.end_list(&mut self.out)?;
         self.json.end_object(&mut self.out)
+    }
+
+    /// Adds an edit at a key.
+    fn edit_at(&mut self, key: &str, range: Range, text: &str) -> Result<(), AllocError> {
+        self.json.key(&mut self.out, key)?;
+        self.edit(range, text)
     }
 
     /// Adds an edit: a text that replaces a range.
@@ -216,6 +269,7 @@ impl Written {
 
     /// Adds the symbols of a document.
     pub fn symbols(&mut self, origin: &Origin<'_>, symbols: &[Symbol]) -> Result<(), AllocError> {
+        let mut walk = origin.walk();
         self.json.begin_list(&mut self.out)?;
         for symbol in symbols {
             let name = symbol.name.as_str();
@@ -224,8 +278,8 @@ impl Written {
             self.json.text_at(&mut self.out, "name", shown)?;
             self.json
                 .number_at(&mut self.out, "kind", symbol_number(symbol.kind))?;
-            self.range_at("range", origin.range(symbol.whole))?;
-            self.range_at("selectionRange", origin.range(symbol.own))?;
+            self.range_at("range", walk.range(symbol.whole))?;
+            self.range_at("selectionRange", walk.range(symbol.own))?;
             self.json.end_object(&mut self.out)?;
         }
         self.json.end_list(&mut self.out)
@@ -246,6 +300,7 @@ fn item_number(kind: ItemKind) -> u64 {
         ItemKind::Attribute => 5,
         ItemKind::Operand => 6,
         ItemKind::EntityType => 7,
+        ItemKind::Entity => 20,
         ItemKind::Action => 23,
     }
 }

@@ -2,7 +2,8 @@
 use crate::editor_tests::judged::{
     OF_USERS, SCHEMA, VIEW, document_by, judge_by, text_at, unmarked,
 };
-use cedar_editor::completions::{Item, ItemKind, completion_at};
+use cedar_editor::completions::completion_at;
+use cedar_editor::items::{Item, ItemKind};
 use cedar_editor::schemas::SchemaDocument;
 use cedar_findings::syntaxes::Syntax;
 use cedar_types::base::ExtensionSchemas;
