@@ -19,6 +19,7 @@ PIECES = {
     "pre_commit": ("sh", "examples/ci/pre-commit"),
     "sarif_upload": ("yaml", "examples/ci/sarif.yml"),
     "python_caller": ("python", "examples/languages/first.py"),
+    "run_first": ("console", "examples/shown/refused.txt"),
     "neovim_session": ("text", "examples/editors/neovim.txt"),
     "texts_host": ("rust", "crates/cedar_verdicts_tests/src/verdicts_tests/said.rt", "schema_of", "verdicts_shown", "all_shown", "push_said"),
     "rounds_host": ("rust", f"{SAMPLES}/rounds.rt", "load"),
@@ -26,6 +27,9 @@ PIECES = {
     "first_host": ("rust", f"{SAMPLES}/example.rt", "policy", "policies", "run"),
     "store_host": ("rust", f"{SAMPLES}/store.rt", "accepted", "let_in", "serve"),
 }
+
+# The pieces of which a page shows only the first lines, and how many.
+BEGINNINGS = {"run_first": 5}
 
 
 def shown(name, files):
@@ -39,6 +43,8 @@ def shown(name, files):
         if gone:
             raise Gone(f"scripts/docs/pieces.py: {path} has no function `{gone[0]}`")
         lines = [line for _, lines in found for line in (*lines, "")][:-1]
+    if name in BEGINNINGS:
+        lines = [*lines[:BEGINNINGS[name]], ".."]
     fence = "````" if any(line.startswith("```") for line in lines) else "```"
     return [f"{fence}{language}", *lines, fence]
 
