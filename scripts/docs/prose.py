@@ -121,11 +121,6 @@ def wrong_counts(text, files):
 LIMITS = [
     ("docs/RULES.md", r"a visited part is deeper than (\S+) ", "cedar_typing/src/typecheck/expressions.rt", "MAX_TYPED_DEPTH"),
     ("docs/EMBEDDING.md", r"would have to go deeper than (\S+)\.", "cedar_typing/src/typecheck/expressions.rt", "MAX_TYPED_DEPTH"),
-    ("docs/READING.md", r"\| (\S+) in policies \| nested nodes", "cedar_reading/src/cursor.rt", "MAX_GRAMMAR_STEPS"),
-    ("docs/READING.md", r"\| (\S+) in schemas \|", "cedar_reading/src/cursor.rt", "MAX_GRAMMAR_STEPS"),
-    ("docs/READING.md", r"\| (\S+) in JSON \|", "cedar_json/src/values.rt", "MAX_DEPTH"),
-    ("docs/READING.md", r"\| (\S+) \| descendants", "cedar_reading/src/schemas/descendants.rt", "MAX_DESCENDANTS"),
-    ("docs/READING.md", r"\| (\S+) \| parts of a namespace", "cedar_reading/src/schemas/blocks.rt", "MAX_NAMESPACE_PARTS"),
     ("docs/READING.md", r"of more than (\S+) characters the first", "cedar_findings/src/lengths.rt", "MAX_IN_NAME"),
     ("docs/EDITORS.md", r"within (\S+) bytes", "cedar_frames/src/heads.rt", "MAX_HEAD"),
 ]
