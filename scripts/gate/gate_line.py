@@ -3,14 +3,17 @@
 
     gate_line.py begin WHAT                                   prints the columns that are known before the run
     gate_line.py row BEFORE SECONDS USED PASSED FAILED TIMES  prints the row
+    gate_line.py remember TOP TIMES                           remembers what proofs of the texts in the checkout TOP took
     gate_line.py shares                                       prints the gate's share of each row of docs/gate.tsv
 
 WHAT is `gate` or `all`. BEFORE is what the first call printed. SECONDS are those of the run by the clock, and USED those of
 processors. TIMES is the file that scripts/gate/lanes.py wrote, with a line for each proof that was made. What was not seen is
-`?`. A row of another machine can be set beside this one by the seconds of `cedar_frames`, which are the same on each machine but
-for its speed. The share is what the proofs of the gate's crates took that the row has (a row leaves out proofs that were kept): their
-number, and their minutes of processors, of the row's machine and of one on which `cedar_frames` takes 66 seconds.
+`?`: for example a proof that was kept has no minutes by the clock. Its minutes of processors are those that it took when it was
+made of the same texts by the same kit, where the user's cache remembers them. A row of another machine can be set beside this one
+by the seconds of `cedar_frames`, which are the same on each machine but for its speed. The share is what the proofs of the gate's
+crates took: their number, and their minutes of processors, of the row's machine and of one on which `cedar_frames` takes 66 seconds.
 """
+import hashlib
 import os
 import re
 import sys
@@ -18,12 +21,15 @@ import time
 from pathlib import Path
 
 sys.path.insert(0, str(Path(__file__).resolve().parent.parent))
+import proofs as travelling  # noqa: E402
 import stamp  # noqa: E402
 import unproved  # noqa: E402
-from gate import copies, times  # noqa: E402
+from gate import copies, kept, times  # noqa: E402
 
 TOP = Path(__file__).resolve().parents[2]
 TABLE = TOP / "docs" / "gate.tsv"
+# What proofs took on this machine: lines of a sum of the kit and of all texts, `proof` or `tests`, and seconds of processors.
+RECORD = kept.FOLDER.parent / "cedar-minutes.tsv"
 COLUMNS = (
     "commit",
     "date in UTC",
@@ -62,8 +68,29 @@ def known_before(what):
     ]
 
 
+def sum_of(store, crate):
+    return hashlib.sha256(f"{travelling.kit_id()} {store.sum_of_texts(crate)}".encode()).hexdigest()
+
+
+def remember(proofs, top=TOP, file=RECORD):
+    """Remembers what the proofs of the texts in a checkout took."""
+    store = travelling.Store(kept.FOLDER, top)
+    file.parent.mkdir(parents=True, exist_ok=True)
+    with open(file, "a", encoding="utf8") as out:
+        out.writelines(f"{sum_of(store, it.crate)}\t{it.part}\t{it.used}\n" for it in proofs)
+
+
+def remembered(crates, made, top=TOP, file=RECORD):
+    """The proofs of these crates that are not among those made, as far as it is remembered what they took."""
+    lines = file.read_text(encoding="utf8").splitlines() if file.is_file() else []
+    took = {(of, part): int(used) for of, part, used in (line.split("\t") for line in lines)}
+    store, known = travelling.Store(kept.FOLDER, top), {(it.crate, it.part) for it in made}
+    found = [(crate, part, took.get((sum_of(store, crate), part))) for crate in crates for part in ("proof", "tests")]
+    return [times.Proof(crate, part, None, None, None, used) for crate, part, used in found if used is not None and (crate, part) not in known]
+
+
 def word_of(proof):
-    begun, ended, used = (f"{it / 60:.1f}" for it in (proof.begun, proof.ended, proof.used))
+    begun, ended, used = (UNSEEN if it is None else f"{it / 60:.1f}" for it in (proof.begun, proof.ended, proof.used))
     return f"{proof.crate}{'+tests' * (proof.part == 'tests')}={begun}-{ended}/{used}"
 
 
@@ -109,6 +136,9 @@ def main(words):
             share = share_of(row, copies.proved_crates(unproved.USES))
             print(row["commit"], row["gate or all"], "unseen" if share is None else "{} proofs, {:.0f} minutes of processors, {:.0f} scaled".format(*share))
         return 0
+    if len(words) == 3 and words[0] == "remember":
+        remember(times.read(words[2]), words[1])
+        return 0
     if len(words) == 2 and words[0] == "begin":
         print("\t".join(known_before(words[1])))
         return 0
@@ -116,7 +146,9 @@ def main(words):
         print(__doc__, file=sys.stderr)
         return 2
     before, seconds, used, passed, failed, file = words[1:]
-    print(row_of(before.split("\t"), seconds, used, passed, failed, times.read(file)))
+    made, crates = times.read(file), [*unproved.USES] if before.split("\t")[2] == "all" else copies.proved_crates(unproved.USES)
+    remember(made)
+    print(row_of(before.split("\t"), seconds, used, passed, failed, [*remembered(crates, made), *made]))
     return 0
 
 

@@ -69,6 +69,14 @@ def lines():
     yield "the share of two crates", gate_line.share_of(read[0], ["low", "high", "new"]) == (3, 5.3, 5.3)
     [older] = gate_line.rows_of(table(OLDER))
     yield "the share of a proof that was not seen", gate_line.share_of(older, ["low", "top"]) is None and gate_line.share_of({**read[0], gate_line.COLUMNS[8]: "33"}, ["low"]) == (1, 2.5, 5)
+    with tempfile.TemporaryDirectory() as room:
+        record = Path(room, "record.tsv")
+        yield "no record", gate_line.remembered(["cedar_frames"], [], file=record) == []
+        frames = [it for it in proofs if it.crate == "cedar_frames"]
+        gate_line.remember(frames, file=record)
+        found = gate_line.remembered(["cedar_frames", "cedar_types"], [], file=record)
+        yield "a proof that was kept", [*map(gate_line.word_of, found)] == ["cedar_frames=?-?/1.1"]
+        yield "a proof that was made", gate_line.remembered(["cedar_frames"], frames, file=record) == []
     yield "rows of another form", is_refused(ROW) and is_refused("") and is_refused(table(ROW + "\tmore"))
     yield "docs/gate.tsv", gate_line.rows_of(gate_line.TABLE.read_text()) != []
     yield "memory", gate_line.gigabytes("MemFree: 1 kB\nMemAvailable:   22000000 kB\n") == "22" and gate_line.gigabytes("") == "?"
