@@ -14,6 +14,7 @@ TESTS = "_tests"
 SUBJECTS = {
     "the three libraries": "cedar_types cedar_typing cedar_typechecker cedar_node_types",
     "readers of texts": "cedar_reading cedar_json cedar_extensions",
+    "the formatter": "cedar_writing",
     "data": "cedar_conformance cedar_data",
     "hosts": "cedar_host cedar_where cedar_samples",
     "verdicts on texts": "cedar_findings cedar_verdicts",

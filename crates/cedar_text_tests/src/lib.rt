@@ -12,3 +12,5 @@ mod frames;
 mod json_tests;
 #[cfg(test)]
 mod reading_tests;
+#[cfg(test)]
+mod writing_tests;

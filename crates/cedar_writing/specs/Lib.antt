@@ -1,0 +1,3 @@
+pub mod PieceExamples
+pub mod Pieces
+pub mod Policies
