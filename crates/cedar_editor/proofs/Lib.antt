@@ -8,3 +8,4 @@ pub mod Standing
 pub mod Starts
 pub mod Told
 pub mod Units
+pub mod Zoom

@@ -9,7 +9,7 @@ use Rattle.cedar_editor.specs.Lines.{begins_line, line_starts}
 
 -- ---- numbers in a row
 
-range_parts : (a m n b : ℕ) → a + m ≡ b → range_with_len a (m + n) ≡ range_with_len a m ++ range_with_len b n
+pub range_parts : (a m n b : ℕ) → a + m ≡ b → range_with_len a (m + n) ≡ range_with_len a m ++ range_with_len b n
 range_parts a zero n b e =
     let on : zero + n ≡ n = omega arith in
     let at : a ≡ b = omega arith in
@@ -19,7 +19,7 @@ range_parts a (suc m) n b e =
     ap (range_with_len a) on ∙ ap (λ (l : List ℕ). a ∷ l) (range_parts (a + 1) m n b (omega arith))
 
 -- two tests that agree on a row keep the same numbers of it
-filter_same : (p q : ℕ → Bool) (a n : ℕ) → ((k : ℕ) → a ≤ k → k < a + n → p k ≡ q k)
+pub filter_same : (p q : ℕ → Bool) (a n : ℕ) → ((k : ℕ) → a ≤ k → k < a + n → p k ≡ q k)
     → filter p (range_with_len a n) ≡ filter q (range_with_len a n)
 filter_same p q a zero h = refl
 filter_same p q a (suc n) h =
@@ -42,7 +42,7 @@ one_moved f a b x true xs ys moved kept rest =
 one_moved f a b x false xs ys moved kept rest = ap (λ (c : Bool). map f (cond c (a ∷ xs) xs)) kept ∙ rest
 
 -- the numbers that a test keeps of a row are moved to those that another test keeps of another row
-filter_moved : (f : ℕ → ℕ) (p q : ℕ → Bool) (a b n : ℕ) → ((i : ℕ) → i < n → (f (a + i) ≡ b + i) × (p (a + i) ≡ q (b + i)))
+pub filter_moved : (f : ℕ → ℕ) (p q : ℕ → Bool) (a b n : ℕ) → ((i : ℕ) → i < n → (f (a + i) ≡ b + i) × (p (a + i) ≡ q (b + i)))
     → map f (filter p (range_with_len a n)) ≡ filter q (range_with_len b n)
 filter_moved f p q a b zero h = refl
 filter_moved f p q a b (suc n) h =
@@ -90,7 +90,7 @@ one_more_start p a k b first was now within is before more =
 
 -- ---- lines
 
-begins_same : (bs cs : List ℕ) (m n : ℕ) → ltb 0 m ≡ ltb 0 n → get_or bs (m - 1) 0 ≡ get_or cs (n - 1) 0 → get_or bs m 0 ≡ get_or cs n 0
+pub begins_same : (bs cs : List ℕ) (m n : ℕ) → ltb 0 m ≡ ltb 0 n → get_or bs (m - 1) 0 ≡ get_or cs (n - 1) 0 → get_or bs m 0 ≡ get_or cs n 0
     → begins_line bs m ≡ begins_line cs n
 begins_same bs cs m n first before at =
     ap (λ (a : Bool). a && (eqb (get_or bs (m - 1) 0) 10 || (eqb (get_or bs (m - 1) 0) 13 && not (eqb (get_or bs m 0) 10)))) first

@@ -1,6 +1,7 @@
 pub mod Checks
 pub mod Diagnostics
 pub mod Documents
+pub mod Drafts
 pub mod EditExamples
 pub mod Edits
 pub mod Ids

@@ -173,10 +173,10 @@ pub fn add_policies<C: ArgumentCheck>(
     ensures placed { OnOk result (AllStandIn text.now policies.old.items
         → AllStandIn text.now policies.new.items) }
 {
-    let known = Known::new(alloc, known, found.len())?;
+    let by_text = Known::new(alloc, known, found.len())?;
     for Found { place, read } in found {
         let own = part_at(text, place);
-        let Some(policy) = policy_of(alloc, judge, own, read, &known)? else {
+        let Some(policy) = policy_of(alloc, judge, own, read, &by_text)? else {
             continue;
         };
         policies.push(PlacedPolicy {

@@ -1,9 +1,10 @@
 //! Edits: changes of texts, as an editor sends them.
 ghost use Rattle.std.specs.Prelude.{◌≡◌, ℕ, ◌+◌, ◌-◌, ◌≤◌, [], ◌∷◌, ◌++◌, Some, length, take, drop, slice_range, string_bytes, IfOk, IfSome, IsTrue, MatchOption};
-ghost use Rattle.cedar_editor.specs.Edits.{is_edited, spliced_text, AreEdited, IsChange, IsPart};
+ghost use Rattle.cedar_editor.specs.Edits.{AreEdited, IsChange, IsPart, IsSpliced};
 ghost use Rattle.cedar_editor.specs.Lines.{line_starts, IsPositionOf};
 ghost use Rattle.cedar_editor.specs.Units.{IsBoundary};
 
+use crate::drafts::Draft;
 use crate::lines::{Lines, Range};
 use cedar_types::base::Loc;
 use std::alloc::{AllocError, Global};
@@ -23,41 +24,11 @@ pub struct Edit<'a> {
 pub fn edited(alloc: Global, text: &str, edits: &[Edit<'_>]) -> Result<String, AllocError>
     ensures { IfOk result (λ new. AreEdited text.now edits.now (string_bytes new)) }
 {
-    let mut whole = String::from_str(alloc, text)?;
-    let mut lines = Lines::new(alloc, text)?;
+    let mut draft = Draft::new(alloc, text)?;
     for edit in edits {
-        let (new, behind) = after(alloc, whole, lines, edit)?;
-        whole = new;
-        lines = behind;
+        draft = draft.after(alloc, edit)?;
     }
-    Ok(whole)
-}
-
-/// The text after one edit, with its lines. The lines are changed too, because finding them again in the whole text takes longer.
-fn after(
-    alloc: Global,
-    text: String,
-    lines: Lines,
-    edit: &Edit<'_>,
-) -> Result<(String, Lines), AllocError>
-    requires { lines.starts.items ≡ line_starts (string_bytes text) }
-    ensures text { IfOk result (λ made. is_edited (string_bytes text) edit.now.range
-        edit.now.text.now (string_bytes made.0)) }
-    ensures lines { IfOk result (λ made.
-        made.1.starts.items ≡ line_starts (string_bytes made.0)) }
-{
-    let Some(range) = edit.range else {
-        let new = String::from_str(alloc, edit.text)?;
-        let lines = Lines::new(alloc, edit.text)?;
-        return Ok((new, lines));
-    };
-    let place = place_of(&lines, text.as_str(), range);
-    let Some((front, behind)) = around(text.as_str(), place) else {
-        return Ok((text, lines));
-    };
-    let new = joined(alloc, front, edit.text, behind)?;
-    let changed = lines.changed(alloc, new.as_str(), place, edit.text.len())?;
-    Ok((new, changed))
+    draft.text(alloc)
 }
 
 /// The range and the text of the only edit; none if there are several, or if it has no range.
@@ -95,6 +66,21 @@ pub(crate) fn around(text: &str, place: Loc) -> Option<(&str, &str)>
     let (front, _) = text.split_at_checked(place.start)?;
     let (_, behind) = text.split_at_checked(place.end)?;
     Some((front, behind))
+}
+
+/// The text with another text in place of one part; the text itself if the place is no part of it.
+pub(crate) fn spliced(
+    alloc: Global,
+    text: &str,
+    place: Loc,
+    inserted: &str,
+) -> Result<String, AllocError>
+    ensures { IfOk result (λ new. IsSpliced text.now place inserted.now (string_bytes new)) }
+{
+    match around(text, place) {
+        Some((front, behind)) => joined(alloc, front, inserted, behind),
+        None => String::from_str(alloc, text),
+    }
 }
 
 /// Three texts, one behind another.

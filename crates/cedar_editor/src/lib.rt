@@ -9,6 +9,7 @@ pub mod completions;
 pub mod definitions;
 pub mod diagnostics;
 pub mod documents;
+mod drafts;
 pub mod edits;
 pub mod examples;
 mod expected;

@@ -121,6 +121,18 @@ impl Lines {
         line
     }
 
+    /// The number of lines without the first.
+    pub(crate) fn count(&self) -> usize
+        ensures { result ≡ length self.now.starts.items }
+    {
+        self.starts.len()
+    }
+
+    /// The byte at which a line begins, or the last one if there is no such line.
+    pub(crate) fn byte_of_line(&self, line: usize) -> usize {
+        self.start_of(line.min(self.starts.len()))
+    }
+
     /// The byte at which a line begins; far beyond the text if there is no such line.
     fn start_of(&self, line: usize) -> usize
         ensures { line ≤ length self.now.starts.items

@@ -108,3 +108,56 @@ fn texts_and_lines_behind_edits(rt: HostRuntime) -> Result<(), Fail> {
     }
     Ok(())
 }
+
+/// The number of lines of a long text.
+const MANY: usize = 5000;
+
+/// A long text, in which another one stands before each seventh line.
+fn long_text(alloc: Global, before: &str) -> Result<String, AllocError> {
+    let mut text = String::new(alloc);
+    for line in 0..MANY {
+        let front = if line % 7 == 0 { before } else { "" };
+        writeln!(text, "{front}line {line}")?;
+    }
+    Ok(text)
+}
+
+/// Edits that put a text before each seventh line of a long text, from the first one on or from the last one. The text has so
+/// many ends of lines.
+fn insertions<'a>(
+    alloc: Global,
+    text: &'a str,
+    ends: usize,
+    is_upward: bool,
+) -> Result<Vec<Edit<'a>>, AllocError> {
+    let mut edits = Vec::new(alloc);
+    let count = MANY.div_ceil(7);
+    for number in 0..count {
+        let line = if is_upward {
+            (count - 1 - number) * 7
+        } else {
+            number * (7 + ends)
+        };
+        let start = Position { line, unit: 0 };
+        edits.push(Edit {
+            range: Some(Range { start, end: start }),
+            text,
+        })?;
+    }
+    Ok(edits)
+}
+
+#[test]
+fn edits_of_many_lines(rt: HostRuntime) -> Result<(), Fail> {
+    let alloc = rt.alloc();
+    let text = long_text(alloc, "")?;
+    for (inserted, ends) in [("é", 0), ("x\n", 1), ("\r\n", 1)] {
+        let wanted = long_text(alloc, inserted)?;
+        for is_upward in [false, true] {
+            let edits = insertions(alloc, inserted, ends, is_upward)?;
+            let new = edited(alloc, text.as_str(), edits.as_slice())?;
+            assert_eq!(rt; new.as_str(), wanted.as_str(), "{inserted:?} {is_upward}");
+        }
+    }
+    Ok(())
+}
