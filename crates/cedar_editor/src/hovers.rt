@@ -1,6 +1,7 @@
 //! Hovers: Markdown texts about the part at a position.
 use crate::checks::CheckedPolicy;
 use crate::mentions::mention_at;
+use crate::outlines::Declared;
 use crate::schemas::SchemaText;
 use crate::spots::spot_at;
 use crate::typed_parts::{TypedPart, types_of};
@@ -32,14 +33,9 @@ pub fn hover_at<C: ArgumentCheck>(
 ) -> Result<Option<Hover>, AllocError> {
     let template = &policy.template;
     if let Some(name) = mention_at(alloc, schema.declared.as_slice(), template, byte)? {
-        let mut text = String::new(alloc);
-        push_code(
-            &mut text,
-            text_at(schema.text.as_str(), name.declared.whole),
-        )?;
         return Ok(Some(Hover {
             place: name.place,
-            text,
+            text: declaration_shown(alloc, schema.text.as_str(), name.declared)?,
         }));
     }
     let (Some(settings), Some(condition)) = (settings, &template.non_scope_constraints) else {
@@ -57,6 +53,17 @@ pub fn hover_at<C: ArgumentCheck>(
         place,
         text: types_shown(alloc, part, types.as_slice())?,
     }))
+}
+
+/// The Markdown text of a declaration in a schema's text.
+pub(crate) fn declaration_shown(
+    alloc: Global,
+    schema: &str,
+    declared: &Declared,
+) -> Result<String, AllocError> {
+    let mut shown = String::new(alloc);
+    push_code(&mut shown, text_at(schema, declared.whole))?;
+    Ok(shown)
 }
 
 /// The Markdown text of a part with its types.

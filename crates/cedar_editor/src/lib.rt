@@ -24,6 +24,7 @@ mod mentions;
 pub mod offsets;
 pub mod outlines;
 mod readings;
+pub mod schema_names;
 pub mod schemas;
 mod spots;
 pub mod symbols;

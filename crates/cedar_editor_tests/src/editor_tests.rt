@@ -10,6 +10,7 @@ mod hovers;
 mod judged;
 mod outlines;
 mod positions;
+mod schema_names;
 mod schemas;
 mod small_changes;
 mod writings;

@@ -11,6 +11,7 @@ mod published;
 mod questions;
 mod replies;
 mod schema_files;
+mod schema_questions;
 mod schemas_in_use;
 mod serving;
 mod sessions;
@@ -18,6 +19,7 @@ mod uris;
 mod waiting;
 mod workspaces;
 mod written;
+mod written_items;
 
 use arguments::{Asked, asked_in};
 use cedar_extensions::checks::Constructor;

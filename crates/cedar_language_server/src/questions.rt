@@ -11,14 +11,14 @@ use cedar_editor::documents::PlacedPolicy;
 use cedar_editor::fixes::{Fix, fix_of};
 use cedar_editor::hovers::hover_at;
 use cedar_editor::schemas::SchemaText;
-use cedar_editor::symbols::{policy_symbols, schema_symbols};
+use cedar_editor::symbols::policy_symbols;
 use cedar_findings::findings::{Finding, Severity};
 use cedar_types::base::{ArgumentCheck, Loc};
 use std::alloc::AllocError;
 use std::slice;
 
 /// The outcome of a question: a value of JSON, or a refusal.
-type Outcome = Result<Result<String, Refusal>, AllocError>;
+pub type Outcome = Result<Result<String, Refusal>, AllocError>;
 
 /// A question that an editor may ask.
 #[derive(Clone, Copy, PartialEq, Eq)]
@@ -27,6 +27,8 @@ pub enum Question {
     Completion,
     Definition,
     Symbols,
+    /// The lines that an editor may fold: those of each symbol.
+    Folds,
     Fixes,
 }
 
@@ -38,6 +40,7 @@ impl Question {
             "textDocument/completion" => Some(Question::Completion),
             "textDocument/definition" => Some(Question::Definition),
             "textDocument/documentSymbol" => Some(Question::Symbols),
+            "textDocument/foldingRange" => Some(Question::Folds),
             "textDocument/codeAction" => Some(Question::Fixes),
             _ => None,
         }
@@ -71,10 +74,10 @@ impl<'e, C: ArgumentCheck> Workspace<'e, C> {
             return Ok(Err(Refusal::BadParameters));
         };
         let Some(document) = self.document(uri) else {
-            return self.answer_of_schema(question, uri);
+            return self.answer_of_schema(question, uri, call);
         };
-        if question == Question::Symbols {
-            return self.symbols(uri, document);
+        if matches!(question, Question::Symbols | Question::Folds) {
+            return self.symbols(question, uri, document);
         }
         let at = match question {
             Question::Fixes => call.range().map(|range| range.start),
@@ -97,39 +100,25 @@ impl<'e, C: ArgumentCheck> Workspace<'e, C> {
             Question::Hover => self.hover(&asked),
             Question::Completion => self.completion(&asked),
             Question::Definition => self.definition(&asked),
-            Question::Symbols | Question::Fixes => {
+            Question::Symbols | Question::Folds | Question::Fixes => {
                 let end = call.range().map(|range| document.policies.byte(range.end));
                 self.fixes(&asked, byte, end.unwrap_or(byte))
             }
         }
     }
 
-    /// The outcome of a question about a schema. Symbols are the only question that has an answer there.
-    fn answer_of_schema(&self, question: Question, uri: &str) -> Outcome {
-        let Some((open, text)) = self.schema_named(uri)? else {
-            return Ok(Err(Refusal::BadParameters));
-        };
-        if question != Question::Symbols {
-            return self.nothing(question);
-        }
-        let symbols = schema_symbols(self.alloc, text.declared.as_slice())?;
-        let origin = origin_of(open.uri.as_str(), text);
-        let mut written = Written::new(self.alloc);
-        written.symbols(&origin, symbols.as_slice())?;
-        Ok(Ok(written.out))
-    }
-
     /// The answer if nothing is known: `null` to a hover, and an empty list to the other questions.
-    fn nothing(&self, question: Question) -> Outcome {
+    pub fn nothing(&self, question: Question) -> Outcome {
         let nothing = match question {
             Question::Hover => "null",
             Question::Completion | Question::Definition => "[]",
-            Question::Symbols | Question::Fixes => "[]",
+            Question::Symbols | Question::Folds | Question::Fixes => "[]",
         };
         Ok(Ok(String::from_str(self.alloc, nothing)?))
     }
 
-    fn symbols(&self, uri: &str, document: &Document<'_, C>) -> Outcome {
+    /// The symbols of a document, or the lines that they fold.
+    fn symbols(&self, question: Question, uri: &str, document: &Document<'_, C>) -> Outcome {
         let symbols = policy_symbols(self.alloc, document.policies.policies())?;
         let origin = Origin {
             uri,
@@ -137,7 +126,11 @@ impl<'e, C: ArgumentCheck> Workspace<'e, C> {
             lines: document.policies.lines(),
         };
         let mut written = Written::new(self.alloc);
-        written.symbols(&origin, symbols.as_slice())?;
+        if question == Question::Folds {
+            written.folds(&origin, symbols.as_slice())?;
+        } else {
+            written.symbols(&origin, symbols.as_slice())?;
+        }
         Ok(Ok(written.out))
     }
 
@@ -257,7 +250,7 @@ impl<'e, C: ArgumentCheck> Workspace<'e, C> {
 }
 
 /// The origin of a text of a schema.
-fn origin_of<'a>(uri: &'a str, own: &'a SchemaText) -> Origin<'a> {
+pub fn origin_of<'a>(uri: &'a str, own: &'a SchemaText) -> Origin<'a> {
     Origin {
         uri,
         text: own.text.as_str(),

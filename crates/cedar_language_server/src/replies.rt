@@ -8,6 +8,7 @@ pub const CAPABILITIES: &str = "{\"capabilities\":{\"positionEncoding\":\"utf-16
 \"textDocumentSync\":{\"openClose\":true,\"change\":2,\"save\":{\"includeText\":false}},\
 \"hoverProvider\":true,\"completionProvider\":{\"triggerCharacters\":[\".\",\" \",\":\"]},\
 \"definitionProvider\":true,\"documentSymbolProvider\":true,\
+\"foldingRangeProvider\":true,\
 \"codeActionProvider\":{\"codeActionKinds\":[\"quickfix\"]}},\
 \"serverInfo\":{\"name\":\"cedar-language-server\",\"version\":\"0.1.0\"}}";
 

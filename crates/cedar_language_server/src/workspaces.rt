@@ -102,21 +102,6 @@ impl<'e, C: ArgumentCheck> Workspace<'e, C> {
         self.schemas.get(key?.as_str())
     }
 
-    /// The open schema file with this URI, with its text as its schema has it.
-    pub fn schema_named(
-        &self,
-        uri: &str,
-    ) -> Result<Option<(&OpenSchema, &SchemaText)>, AllocError> {
-        let key = key_of(self.alloc, uri)?;
-        let Some(open) = self.open_schemas.get(key.as_str()) else {
-            return Ok(None);
-        };
-        match self.text_in_schema(key.as_str(), open) {
-            Some(text) => Ok(Some((open, text))),
-            None => Ok(None),
-        }
-    }
-
     /// The URI of the schema file at a path: the editor's own if it is open there.
     pub fn uri_of_schema(&self, path: &str) -> Result<String, AllocError> {
         match self.open_schemas.get(path) {

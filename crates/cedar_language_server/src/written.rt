@@ -1,8 +1,5 @@
 // Values of the protocol, written as JSON for the editor.
-use cedar_editor::completions::Completion;
 use cedar_editor::diagnostics::Diagnostic;
-use cedar_editor::documents::PlacedPolicy;
-use cedar_editor::items::ItemKind;
 use cedar_editor::lines::{Lines, Position, Range};
 use cedar_editor::outlines::DeclaredKind;
 use cedar_editor::symbols::{Symbol, SymbolKind};
@@ -11,9 +8,6 @@ use cedar_findings::findings::Severity;
 use cedar_findings::json::JsonWriter;
 use cedar_types::base::Loc;
 use std::alloc::{AllocError, Global};
-
-/// The most items of a completion that are sent.
-const MAX_ITEMS: usize = 1000;
 
 /// The protocol's number for the severity of a note.
 const INFORMATION: u64 = 3;
@@ -179,50 +173,8 @@ impl Written {
         self.json.end_object(&mut self.out)
     }
 
-    /// Adds the items of a completion in a policy, each with the edit that writes it.
-    pub fn completion(
-        &mut self,
-        alloc: Global,
-        origin: &Origin<'_>,
-        placed: &PlacedPolicy,
-        completion: &Completion,
-    ) -> Result<(), AllocError> {
-        let range = origin.range(placed.place(completion.place));
-        let is_incomplete = completion.items.len() > MAX_ITEMS;
-        self.json.begin_object(&mut self.out)?;
-        self.json.key(&mut self.out, "isIncomplete")?;
-        self.json.boolean(&mut self.out, is_incomplete)?;
-        self.json.key(&mut self.out, "items")?;
-        self.json.begin_list(&mut self.out)?;
-        for item in completion.items.iter().take(MAX_ITEMS) {
-            self.json.begin_object(&mut self.out)?;
-            self.json
-                .text_at(&mut self.out, "label", item.label.as_str())?;
-            self.json
-                .number_at(&mut self.out, "kind", item_number(item.kind))?;
-            self.json
-                .text_at(&mut self.out, "detail", item.detail.as_str())?;
-            match &item.writing {
-                // editors compare the replaced text, of which the `.` is the beginning, with `filterText`
-                Some(writing) if writing.place != completion.place => {
-                    let own = origin.range(placed.place(writing.place));
-                    let label = item.label.as_str();
-                    let filter = format!(in alloc; ".{label}")?;
-                    self.json
-                        .text_at(&mut self.out, "filterText", filter.as_str())?;
-                    self.edit_at("textEdit", own, writing.text.as_str())?;
-                }
-                Some(writing) => self.edit_at("textEdit", range, writing.text.as_str())?,
-                None => self.edit_at("textEdit", range, item.label.as_str())?,
-            }
-            self.json.end_object(&mut self.out)?;
-        }
-        self.json.end_list(&mut self.out)?;
-        self.json.end_object(&mut self.out)
-    }
-
     /// Adds an edit at a key.
-    fn edit_at(&mut self, key: &str, range: Range, text: &str) -> Result<(), AllocError> {
+    pub fn edit_at(&mut self, key: &str, range: Range, text: &str) -> Result<(), AllocError> {
         self.json.key(&mut self.out, key)?;
         self.edit(range, text)
     }
@@ -267,6 +219,23 @@ impl Written {
         self.json.end_object(&mut self.out)
     }
 
+    /// Adds the lines that an editor may fold: those of each symbol that stands on several.
+    pub fn folds(&mut self, origin: &Origin<'_>, symbols: &[Symbol]) -> Result<(), AllocError> {
+        let mut walk = origin.walk();
+        self.json.begin_list(&mut self.out)?;
+        for symbol in symbols {
+            let Range { start, end } = walk.range(symbol.whole);
+            if start.line < end.line {
+                self.json.begin_object(&mut self.out)?;
+                let (first, last) = (start.line as u64, end.line as u64);
+                self.json.number_at(&mut self.out, "startLine", first)?;
+                self.json.number_at(&mut self.out, "endLine", last)?;
+                self.json.end_object(&mut self.out)?;
+            }
+        }
+        self.json.end_list(&mut self.out)
+    }
+
     /// Adds the symbols of a document.
     pub fn symbols(&mut self, origin: &Origin<'_>, symbols: &[Symbol]) -> Result<(), AllocError> {
         let mut walk = origin.walk();
@@ -290,18 +259,6 @@ fn severity_number(severity: Severity) -> u64 {
     match severity {
         Severity::Error => 1,
         Severity::Warning => 2,
-    }
-}
-
-/// The protocol's number for a kind of item.
-fn item_number(kind: ItemKind) -> u64 {
-    match kind {
-        ItemKind::Method => 2,
-        ItemKind::Attribute => 5,
-        ItemKind::Operand => 6,
-        ItemKind::EntityType => 7,
-        ItemKind::Entity => 20,
-        ItemKind::Action => 23,
     }
 }
 
