@@ -2,8 +2,8 @@
 """Calls the C library from other languages: scripts/caller_cases.py [--gate] [PROGRAM].
 
 The library is built by scripts/library.py, without a proof, or with --gate by one over the libraries of scripts/prove, and
-PROGRAM is cedar_validate, by default built without a proof. It looks at what the library exports, calls it from C (sizes, odd texts, memory, four threads, each refusal of memory, and the stack of threads
-of 1 MiB and of 256 KiB), and runs the test of each language of bindings/ that the machine has; another is skipped, which is said. Each policy
+PROGRAM is cedar_validate, by default built without a proof. It looks at what the library exports, calls it from C (sizes, odd texts, handles,
+memory, four threads, each refusal of memory, and the stack of threads of 1 MiB and of 256 KiB), and runs the test of each language of bindings/ that the machine has; another is skipped, which is said. Each policy
 of the applications in crates/cedar_cases/data is answered as `cedar-validate --json` says it, and by a library that is proved
 byte for byte as by one that is not. The last line counts what went well and what did not.
 """
@@ -25,6 +25,8 @@ SECONDS = 600
 # What a thread of Java has, and a small thread, which is enough at a depth of 10.
 STACK = 1024
 SMALL_STACK = 256
+# How many records with names may nest in a schema.
+MOST_NAMED = 132
 FLAGS = ["-O1", "-Wall", "-Wextra", "-Werror"]
 # Where Debian keeps crates, and what lets cargo take them.
 DEBIAN = Path("/usr/share/cargo/registry")
@@ -93,7 +95,7 @@ class Callers:
         archive = ran("nm", "-g", "--defined-only", self.lib / "libcedar.a").split()
         found = [sorted(it for it in names if it.startswith("cedar_")) for names in (shared, archive)]
         kinds = [len([it for it in names if it == "T"]) for names in (shared, archive)]
-        if found != [sorted(library.CALLS)] * 2 or kinds != [4, 4]:
+        if found != [sorted(library.CALLS)] * 2 or kinds != [len(library.CALLS)] * 2:
             raise ValueError(f"exported are {shared} and {archive}")
         need("pkg-config")
         if str(self.lib) not in os.path.normpath(ran("pkg-config", "--libs-only-L", "cedar", env=self.env).strip()[2:]):
@@ -107,12 +109,18 @@ class Callers:
         ran(static, env={"GLIBC_TUNABLES": "glibc.malloc.tcache_count=0"})
 
     def refusals(self):
-        """Each growth of memory refused, of each call."""
+        """Each growth of memory refused, of each call, of opening a schema, and of each call by an open one."""
         program = self.compiled("refused", "-fno-builtin", "-L", self.lib, "-lcedar", "-rdynamic")
         for name, call in refused_calls().items():
             text = self.room / f"{name}.json"
             text.write_text(json.dumps(call), encoding="utf8")
-            ran(program, name, text, env={**self.env, "GLIBC_TUNABLES": "glibc.malloc.tcache_count=0"})
+            env = {**self.env, "GLIBC_TUNABLES": "glibc.malloc.tcache_count=0"}
+            ran(program, name, text, env=env)
+            schema, by = self.room / f"{name}-schema.json", self.room / f"{name}-by.json"
+            schema.write_text(json.dumps({"schema": call.pop("schema")}), encoding="utf8")
+            by.write_text(json.dumps(call), encoding="utf8")
+            ran(program, "schema-open", schema, env=env)
+            ran(program, name, by, schema, env=env)
 
     def stack(self):
         """The deepest texts that are read, and conditions of the greatest depth that a call allows, fit the stack that cedar.h says."""
@@ -242,6 +250,12 @@ def nested(count, form, inner):
     return inner
 
 
+def named_types(count):
+    """A schema of an entity whose attribute nests so many records, each a type with a name."""
+    records = "".join(f"type T{i + 1}={{a:T{i}}};" for i in range(count))
+    return f"type T0=Long;{records}entity P{{a:T{count}}};action go appliesTo{{principal:P,resource:P}};"
+
+
 def deep_calls():
     """How many KiB of stack are there, a call, and texts of it that have to fit."""
     negation = lambda it: {"!": {"arg": it}}
@@ -255,8 +269,13 @@ def deep_calls():
         texts.append(json.dumps({"schema": f"entity P{{a:{opens * 398}Long{closes * 398}}};", "policies": {}}))
     shape = nested(130, lambda it: {"type": "Record", "attributes": {"a": it}}, {"type": "Long"})
     texts.append(json.dumps({"schema": {"": {"entityTypes": {"P": {"shape": shape}}, "actions": {}}}, "policies": {}}))
-    named = "type T0=Long;" + "".join(f"type T{i + 1}={{a:T{i}}};" for i in range(390)) + "entity P{a:T390};action go appliesTo{principal:P,resource:P};"
-    texts.append(json.dumps({"schema": named, "policies": f"{SCOPE} when {{principal.a == resource.a}};"}))
+    equal = {"policies": f"{SCOPE} when {{principal.a == resource.a}};"}
+    texts.append(json.dumps({"schema": named_types(390), **equal}))
+    calls = [json.loads(it) for it in texts]
+    yield STACK, "schema-open", [json.dumps({"schema": it["schema"]}) for it in calls[-4:]]
+    by = [{key: it[key] for key in it if key != "schema"} for it in calls if it["schema"] == SCHEMA]
+    yield STACK, "schema-validate", [json.dumps({"schema": SCHEMA}), *map(json.dumps, by)]
+    yield STACK, "schema-validate", [json.dumps({"schema": named_types(MOST_NAMED)}), json.dumps(equal)]
     texts.append("[" * 400 + "]" * 400)
     yield STACK, "validate", texts
     yield STACK, "typed-conditions", [json.dumps({"schema": SCHEMA, "policy": f"{SCOPE} when {{{condition(97)}}};"}) for condition in NESTED.values()]

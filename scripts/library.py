@@ -28,7 +28,8 @@ GATE = TOP / "out" / "gate"
 TOOLS = ("cc", "ld", "objcopy", "ar")
 # The section that says of which build an object is.
 NOTE = ".cedar.build"
-CALLS = ("cedar_abi", "cedar_validate", "cedar_check_data", "cedar_typed_conditions")
+CALLS = ("cedar_abi", "cedar_validate", "cedar_check_data", "cedar_typed_conditions", "cedar_schema_open", "cedar_schema_validate",
+         "cedar_schema_check_data", "cedar_schema_typed_conditions", "cedar_schema_answer", "cedar_schema_close")
 # A program that makes each call, so that the compiler keeps it.
 MAIN = """#![tactic(auto)]
 
@@ -41,7 +42,14 @@ fn main(rt: HostRuntime) {
     let first = of_cedar_c::cedar_validate(alloc, b"", &mut room, &mut needed);
     let second = of_cedar_c::cedar_check_data(alloc, b"", &mut room, &mut needed);
     let third = of_cedar_c::cedar_typed_conditions(alloc, b"", &mut room, &mut needed);
-    let _ = println!(rt; "{first} {second} {third} {needed}");
+    let mut schema = of_cedar_c::handles::Schema::closed(alloc);
+    let opened = of_cedar_c::cedar_schema_open(alloc, &mut schema, b"", &mut room, &mut needed);
+    let fourth = of_cedar_c::cedar_schema_validate(alloc, &mut schema, b"", &mut room, &mut needed);
+    let fifth = of_cedar_c::cedar_schema_check_data(alloc, &mut schema, b"", &mut room, &mut needed);
+    let sixth = of_cedar_c::cedar_schema_typed_conditions(alloc, &mut schema, b"", &mut room, &mut needed);
+    let kept = of_cedar_c::cedar_schema_answer(alloc, &mut schema, &mut room, &mut needed);
+    of_cedar_c::cedar_schema_close(alloc, &mut schema);
+    let _ = println!(rt; "{first} {second} {third} {opened} {fourth} {fifth} {sixth} {kept} {needed}");
 }
 """
 NAMED = re.compile(r'@"joined::of_cedar_c::(cedar_\w+)"')

@@ -122,11 +122,14 @@ class Packages:
     def go(self):
         """The folder for GOPROXY, with the module, which has the archive inside."""
         made = self.copied("go")
-        text = (made / "cedar.go").read_text(encoding="utf8")
-        linked = text.replace("// #cgo pkg-config: cedar\n// #include <cedar.h>\n", '// #cgo LDFLAGS: ${SRCDIR}/libcedar.a\n// #include "cedar.h"\n')
-        if linked == text:
-            raise ValueError("cedar.go does not say how it links")
-        (made / "cedar.go").write_text(f"//go:build linux && amd64\n\n{linked}", encoding="utf8")
+        is_linked = False
+        for path in sorted(made.glob("*.go")):
+            text = path.read_text(encoding="utf8")
+            is_linked |= "// #cgo pkg-config: cedar\n" in text
+            linked = text.replace("// #cgo pkg-config: cedar\n", "// #cgo LDFLAGS: ${SRCDIR}/libcedar.a\n").replace("#include <cedar.h>", '#include "cedar.h"')
+            path.write_text(f"//go:build linux && amd64\n\n{linked}", encoding="utf8")
+        if not is_linked:
+            raise ValueError("no file of Go says how it links")
         shutil.copyfile(self.archive, made / "libcedar.a")
         shutil.copyfile(self.folder / "include/cedar.h", made / "cedar.h")
         place, version = self.out / "go" / GO_PATH / "@v", f"v{self.version}"

@@ -1,5 +1,6 @@
-/* Calls of which the first growth of memory is refused, then the second, and so on: refused CALL FILE, where CALL is `validate`,
- * `check-data` or `typed-conditions`. Each refusal has to be a status that leaves the answer as it was and gives all memory back. */
+/* Calls of which the first growth of memory is refused, then the second, and so on: refused CALL FILE [SCHEMA], where CALL is `validate`,
+ * `check-data`, `typed-conditions` or `schema-open`. With a file SCHEMA, an open handle makes the call, whose answer does not fit, and is
+ * kept. Each refusal has to be a status that leaves the answer as it was and gives all memory back. */
 #include "../cedar.h"
 #include <malloc.h>
 #include <stdio.h>
@@ -18,23 +19,44 @@ void *realloc(void *block, size_t size) {
 }
 
 typedef uint32_t Call(const uint8_t *, size_t, uint8_t *, size_t, size_t *);
-static uint8_t text[1 << 20], room[1 << 20];
+typedef uint32_t CallBy(cedar_schema *, const uint8_t *, size_t, uint8_t *, size_t, size_t *);
+static uint8_t text[1 << 20], schema_text[1 << 20], room[1 << 20];
+static size_t size;
+static cedar_schema schema;
+static const struct { const char *name; Call *call; CallBy *by; } calls[] = {{"validate", cedar_validate, cedar_schema_validate},
+    {"check-data", cedar_check_data, cedar_schema_check_data}, {"typed-conditions", cedar_typed_conditions, cedar_schema_typed_conditions}};
+
+static size_t read_file(const char *name, uint8_t *into) {
+    FILE *file = fopen(name, "rb");
+    if (!file) exit(2);
+    size_t read = fread(into, 1, sizeof text, file);
+    fclose(file);
+    return read;
+}
+
+static uint32_t call(const char *name, int is_by, size_t *needed) {
+    for (size_t i = 0; i < sizeof calls / sizeof *calls; i++) {
+        if (strcmp(name, calls[i].name)) continue;
+        return is_by ? calls[i].by(&schema, text, size, room, 1, needed) : calls[i].call(text, size, room, sizeof room, needed);
+    }
+    return cedar_schema_open(&schema, text, size, room, sizeof room, needed);
+}
 
 int main(int count, char **words) {
-    if (count != 3) return 2;
-    Call *call = !strcmp(words[1], "validate") ? cedar_validate : !strcmp(words[1], "check-data") ? cedar_check_data : cedar_typed_conditions;
-    FILE *file = fopen(words[2], "rb");
-    if (!file) return 2;
-    size_t size = fread(text, 1, sizeof text, file), needed;
-    fclose(file);
+    if (count != 3 && count != 4) return 2;
+    size_t needed;
+    size = read_file(words[2], text);
+    if (count == 4 && cedar_schema_open(&schema, schema_text, read_file(words[3], schema_text), room, sizeof room, &needed) != CEDAR_OPENED) return 2;
+    uint32_t wanted = count == 4 ? CEDAR_TOO_SMALL : strcmp(words[1], "schema-open") ? CEDAR_ANSWERED : CEDAR_OPENED;
     memset(room, 9, sizeof room);
     for (long number = 1;; number++) {
         size_t before = mallinfo2().uordblks;
         at = number, seen = 0;
-        uint32_t status = call(text, size, room, sizeof room, &needed);
+        uint32_t status = call(words[1], count == 4, &needed);
         at = 0;
+        if (status == wanted) cedar_schema_close(&schema);
+        if (status == wanted) return printf("%ld growths refused: ok\n", number - 1), 0;
         if (mallinfo2().uordblks != before) return printf("growth %ld: memory is not given back\n", number), 1;
-        if (status == CEDAR_ANSWERED) return printf("%ld growths refused: ok\n", number - 1), 0;
         if (status != CEDAR_NO_MEMORY || needed || room[0] != 9) return printf("growth %ld: status %u\n", number, status), 1;
     }
 }

@@ -1,4 +1,5 @@
-/* Whether calls fit a thread of so many KiB of stack: stack KIB CALL FILE.., each in a process of its own. */
+/* Whether calls fit a thread of so many KiB of stack: stack KIB CALL FILE.., each in a process of its own. CALL is `validate`,
+ * `check-data`, `typed-conditions`, `schema-open`, which closes the schema too, or `schema-validate`, whose first file has the schema. */
 #include "../cedar.h"
 #include <pthread.h>
 #include <stdio.h>
@@ -7,9 +8,32 @@
 #include <sys/wait.h>
 #include <unistd.h>
 
-static uint8_t text[1 << 22], room[1 << 22];
-static size_t size;
+static uint8_t text[1 << 22], schema_text[1 << 22], room[1 << 22];
+static size_t size, schema_size;
 static uint32_t (*call)(const uint8_t *, size_t, uint8_t *, size_t, size_t *);
+
+static uint32_t open_and_close(const uint8_t *given, size_t length, uint8_t *said, size_t most, size_t *needed) {
+    cedar_schema schema = {0};
+    uint32_t status = cedar_schema_open(&schema, given, length, said, most, needed);
+    cedar_schema_close(&schema);
+    return status == CEDAR_OPENED ? CEDAR_ANSWERED : status;
+}
+
+static uint32_t validate_by(const uint8_t *given, size_t length, uint8_t *said, size_t most, size_t *needed) {
+    cedar_schema schema = {0};
+    if (cedar_schema_open(&schema, schema_text, schema_size, said, most, needed) != CEDAR_OPENED) return CEDAR_CLOSED;
+    uint32_t status = cedar_schema_validate(&schema, given, length, said, most, needed);
+    cedar_schema_close(&schema);
+    return status;
+}
+
+static size_t read_file(const char *name, uint8_t *into) {
+    FILE *file = fopen(name, "rb");
+    if (!file) exit(2);
+    size_t read = fread(into, 1, sizeof text, file);
+    fclose(file);
+    return read;
+}
 
 static void *answer(void *status) {
     size_t needed;
@@ -31,11 +55,11 @@ int main(int count, char **words) {
     int failed = 0;
     if (count < 3) return 2;
     call = !strcmp(words[2], "validate") ? cedar_validate : !strcmp(words[2], "check-data") ? cedar_check_data : cedar_typed_conditions;
-    for (int i = 3; i < count; i++) {
-        FILE *file = fopen(words[i], "rb");
-        if (!file) return 2;
-        size = fread(text, 1, sizeof text, file);
-        fclose(file);
+    if (!strcmp(words[2], "schema-open")) call = open_and_close;
+    int is_by = !strcmp(words[2], "schema-validate");
+    if (is_by && count > 3) call = validate_by, schema_size = read_file(words[3], schema_text);
+    for (int i = 3 + is_by; i < count; i++) {
+        size = read_file(words[i], text);
         int status;
         pid_t child = fork();
         if (child == 0) _exit(in_thread((size_t)atol(words[1])));

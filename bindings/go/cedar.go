@@ -1,4 +1,5 @@
 // Package cedar validates Cedar policies by the C library libcedar. Each function takes a call, a text of JSON, and answers one.
+// A Schema is read once, for many calls.
 package cedar
 
 // #cgo pkg-config: cedar
@@ -31,19 +32,23 @@ func CheckData(call []byte) ([]byte, error) { return answered(1, call) }
 // TypedConditions answers the condition of a policy in each of its environments: schema, policy and perhaps validationSettings.
 func TypedConditions(call []byte) ([]byte, error) { return answered(2, call) }
 
+// pointer answers a pointer to bytes, also where there are none.
+func pointer(bytes []byte) *C.uint8_t {
+	if len(bytes) == 0 {
+		bytes = []byte{0}
+	}
+	return (*C.uint8_t)(unsafe.Pointer(&bytes[0]))
+}
+
 func answered(number int, call []byte) ([]byte, error) {
 	if C.cedar_abi() != C.CEDAR_ABI {
 		return nil, ErrOtherLibrary
 	}
 	size := len(call)
-	if size == 0 {
-		// a pointer is wanted also where there are no bytes
-		call = []byte{0}
-	}
 	for room := 4*size + 4096; ; {
 		answer := make([]byte, room)
 		var needed C.size_t
-		status := C.make(C.int(number), (*C.uint8_t)(unsafe.Pointer(&call[0])), C.size_t(size), (*C.uint8_t)(unsafe.Pointer(&answer[0])), C.size_t(room), &needed)
+		status := C.make(C.int(number), pointer(call), C.size_t(size), pointer(answer), C.size_t(room), &needed)
 		switch status {
 		case C.CEDAR_ANSWERED:
 			return answer[:needed], nil

@@ -1,8 +1,9 @@
-/* The addon: cc -shared -fPIC -I/usr/include/node cedar.c later.c -o cedar.node -lcedar */
+/* The addon: cc -shared -fPIC -I/usr/include/node cedar.c later.c schema.c -o cedar.node -lcedar */
 #include "later.h"
+#include "schema.h"
 #include <stdlib.h>
 
-static napi_value fail(napi_env env, const char *why) {
+napi_value fail(napi_env env, const char *why) {
     napi_throw_error(env, 0, why);
     return 0;
 }
@@ -38,5 +39,5 @@ NAPI_MODULE_INIT() {
             || napi_create_function(env, calls[i].later, NAPI_AUTO_LENGTH, answer_later, (void *)calls[i].call, &it) != napi_ok
             || napi_set_named_property(env, exports, calls[i].later, it) != napi_ok) return fail(env, "the addon failed");
     }
-    return exports;
+    return add_schema_calls(env, exports) ? exports : fail(env, "the addon failed");
 }

@@ -67,3 +67,20 @@ export const promises: {
     checkData(call: DataCall | string): Promise<CheckedData | Failure>;
     typedConditions(call: ConditionsCall | string): Promise<Conditions | Failure>;
 };
+
+/** Why a schema cannot be read. */
+export class SchemaError extends Error { readonly failure: Failure }
+
+/**
+ * A schema that is read once. Its calls name no schema, and throw an Error if it is closed. It stays in its thread, and is freed at the
+ * latest when nothing refers to it.
+ */
+export class Schema {
+    /** Throws a SchemaError if the schema cannot be read. */
+    constructor(schema: Policy);
+    validate(call: Omit<ValidationCall, "schema"> | string): Success | Failure;
+    checkData(call: Omit<DataCall, "schema"> | string): CheckedData | Failure;
+    typedConditions(call: Omit<ConditionsCall, "schema"> | string): Conditions | Failure;
+    /** Frees the schema. A closed one stays closed. */
+    close(): void;
+}

@@ -42,7 +42,7 @@ static void finish(napi_env env, napi_status ended, void *data) {
     free(job);
 }
 
-static napi_value fail(napi_env env, Job *job, const char *why) {
+static napi_value fail_job(napi_env env, Job *job, const char *why) {
     free(job);
     napi_throw_error(env, 0, why);
     return 0;
@@ -54,13 +54,13 @@ napi_value answer_later(napi_env env, napi_callback_info info) {
     void *call;
     bool is_buffer = false;
     Job *job = calloc(1, sizeof *job);
-    if (!job) return fail(env, job, "memory was refused");
-    if (napi_get_cb_info(env, info, &count, &given, 0, &call) != napi_ok) return fail(env, job, "the addon failed");
-    if (count != 1 || napi_is_buffer(env, given, &is_buffer) != napi_ok || !is_buffer) return fail(env, job, "a Buffer is wanted");
+    if (!job) return fail_job(env, job, "memory was refused");
+    if (napi_get_cb_info(env, info, &count, &given, 0, &call) != napi_ok) return fail_job(env, job, "the addon failed");
+    if (count != 1 || napi_is_buffer(env, given, &is_buffer) != napi_ok || !is_buffer) return fail_job(env, job, "a Buffer is wanted");
     job->call = (Call *)call;
     if (napi_get_buffer_info(env, given, &job->text, &job->size) != napi_ok || napi_create_string_utf8(env, "cedar", NAPI_AUTO_LENGTH, &name) != napi_ok
         || napi_create_reference(env, given, 1, &job->given) != napi_ok || napi_create_promise(env, &job->promise, &promise) != napi_ok
         || napi_create_async_work(env, 0, name, make, finish, job, &job->work) != napi_ok || napi_queue_async_work(env, job->work) != napi_ok)
-        return fail(env, job, "the addon failed");
+        return fail_job(env, job, "the addon failed");
     return promise;
 }

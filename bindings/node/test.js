@@ -1,4 +1,4 @@
-// The calls from Node: answers, odd texts, promises, memory, and four workers.
+// The calls from Node: answers, odd texts, schemas that are read once, promises, memory, and four workers.
 const assert = require("assert"), { Worker, isMainThread } = require("worker_threads");
 const cedar = require("./index.js");
 
@@ -23,6 +23,22 @@ function oddTexts() {
     assert.throws(() => cedar.native.validate("x"), /Buffer/);
 }
 
+function schemas() {
+    const opened = new cedar.Schema(schema), { schema: named, ...by } = call;
+    for (let i = 0; i < 3; i++) assert.deepStrictEqual(opened.validate(by), cedar.validate(call));
+    assert.strictEqual(opened.validate(call).type, "failure");
+    assert.deepStrictEqual(opened.checkData({ entities: [] }), cedar.checkData({ schema, entities: [] }));
+    const policy = `${scope} when {principal == resource};`, policies = `${scope} when {principal.a == 1};`.repeat(300);
+    assert.deepStrictEqual(opened.typedConditions({ policy }), cedar.typedConditions({ schema, policy }));
+    assert.deepStrictEqual(opened.validate({ policies }), cedar.validate({ schema, policies }));
+    assert.throws(() => cedar.native.validateBy({}, Buffer.from("")), /schema is wanted/);
+    opened.close();
+    opened.close();
+    assert.throws(() => opened.validate(by), /closed/);
+    for (const wrong of ["entity", { "": 1 }, 1]) assert.throws(() => new cedar.Schema(wrong), (error) => error.failure.type === "failure");
+    assert.throws(() => cedar.native.open(Buffer.from([0xff])), /UTF-8/);
+}
+
 async function promises() {
     let turns = 0;
     const ticks = setInterval(() => turns++, 0), calls = Array.from({ length: 200 }, () => cedar.promises.validate(call));
@@ -41,6 +57,7 @@ function memory() {
     gc();
     const before = process.memoryUsage().rss;
     run(CALLS);
+    for (let i = 0; i < CALLS / 10; i++) new cedar.Schema(schema);
     gc();
     assert(process.memoryUsage().rss - before < 1 << 26);
 }
@@ -49,8 +66,10 @@ if (isMainThread) {
     memory();
     answers();
     oddTexts();
+    schemas();
     promises().then(() => 0, (error) => { throw error; });
     for (let i = 0; i < 4; i++) new Worker(__filename).on("exit", (code) => assert.strictEqual(code, 0));
 } else {
     run(CALLS / 4);
+    schemas();
 }

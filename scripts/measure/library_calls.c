@@ -22,7 +22,7 @@ int main(int count, char **words) {
     int is_by = strcmp(words[1], "validate") != 0;
 #if CEDAR_ABI > 1
     cedar_schema schema = {0};
-    if (is_by && (cedar_schema_open(&schema, schema_text, schema_size, room, sizeof room, &needed) || needed)) return 3;
+    if (is_by && cedar_schema_open(&schema, schema_text, schema_size, room, sizeof room, &needed) != CEDAR_OPENED) return 3;
 #else
     if (is_by) return 3;
     (void)schema_size;

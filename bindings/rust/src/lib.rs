@@ -1,12 +1,15 @@
-//! The validator of Cedar policies, by the C library libcedar. Each function takes a call, a text of JSON, and answers one. With
-//! the feature `serde`, `types` has calls and answers as types.
+//! The validator of Cedar policies, by the C library libcedar. Each function takes a call, a text of JSON, and answers one. A
+//! [`Schema`] is read once, for many calls. With the feature `serde`, `types` has calls and answers as types.
 use std::fmt;
 
+mod schema;
 #[cfg(feature = "serde")]
 pub mod types;
 
+pub use schema::{OpenError, Schema};
+
 /// The number of calls that this crate knows.
-const ABI: u32 = 1;
+const ABI: u32 = 2;
 
 type Call = unsafe extern "C" fn(*const u8, usize, *mut u8, usize, *mut usize) -> u32;
 
@@ -52,12 +55,17 @@ pub fn typed_conditions(call: &str) -> Result<String, Error> {
     answered(cedar_typed_conditions, call)
 }
 
-fn answered(function: Call, call: &str) -> Result<String, Error> {
+/// Fails if the library has another number of calls.
+fn check_library() -> Result<(), Error> {
     // SAFETY: it takes nothing.
-    let abi = unsafe { cedar_abi() };
-    if abi != ABI {
-        return Err(Error::OtherLibrary(abi));
+    match unsafe { cedar_abi() } {
+        ABI => Ok(()),
+        abi => Err(Error::OtherLibrary(abi)),
     }
+}
+
+fn answered(function: Call, call: &str) -> Result<String, Error> {
+    check_library()?;
     let mut room = vec![0; 4 * call.len() + 4096];
     loop {
         let mut needed = 0;

@@ -1,4 +1,5 @@
-// Copies of schemas, because a validator takes the schema by which it validates.
+// Copies of schemas, because a validator takes the schema by which it validates. It borrows the
+// extension functions, so nothing can hold it beside them between calls.
 use cedar_types::base::{
     EntityType, EntityUID, EnumChoices, StandardValidatorEntityType, ValidatorActionId,
     ValidatorActionKind, ValidatorApplySpec, ValidatorEntityType, ValidatorEntityTypeKind,

@@ -11,8 +11,6 @@ use std::alloc::{AllocError, Global};
 #[derive(Drop)]
 pub struct Opened {
     pub(crate) schema: ValidatorSchema,
-    /// The answer of the last call by this schema, if it did not fit the buffer of that call.
-    pub kept: Option<String>,
 }
 
 impl Opened {
@@ -30,7 +28,7 @@ pub fn open_call(alloc: Global, call: &str) -> Result<Result<Opened, String>, Al
         Err(error) => Err(only_fault(alloc, call, error)?),
     };
     match read {
-        Ok(schema) => Ok(Ok(Opened { schema, kept: None })),
+        Ok(schema) => Ok(Ok(Opened { schema })),
         Err(faults) => Ok(Err(failure(alloc, &faults)?)),
     }
 }

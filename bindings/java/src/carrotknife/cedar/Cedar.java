@@ -10,17 +10,17 @@ import java.nio.file.StandardCopyOption;
 /** The validator of Cedar policies, by the C library libcedar. Each method takes a call, a text of JSON, and answers one. */
 public final class Cedar {
     /** The number of calls that this class knows. */
-    private static final int ABI = 1;
+    private static final int ABI = 2;
 
     static {
-        load();
+        loadLibrary();
         if (abi() != ABI) throw new ExceptionInInitializerError("libcedar has the number " + abi() + " of calls, where " + ABI + " is wanted");
     }
 
     private Cedar() { }
 
     /** Loads the library that lies in the jar beside this class, and else that of {@code java.library.path}. */
-    private static void load() {
+    private static void loadLibrary() {
         try (InputStream inJar = Cedar.class.getResourceAsStream("libcedar_jni.so")) {
             if (inJar == null) {
                 System.loadLibrary("cedar_jni");
@@ -39,6 +39,9 @@ public final class Cedar {
     }
 
     private static native int abi();
+
+    /** Does nothing but load this class, and so the library. */
+    static void load() { }
 
     /** Makes the call of this number. Memory that is refused is an OutOfMemoryError, and bytes that are no UTF-8 are an IllegalArgumentException. */
     static native byte[] answer(int number, byte[] call);

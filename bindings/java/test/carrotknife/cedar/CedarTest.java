@@ -3,7 +3,7 @@ package carrotknife.cedar;
 import java.nio.file.Files;
 import java.nio.file.Path;
 
-/** The calls from Java: answers, typed calls, odd texts, memory, four threads, and a deep condition on a thread of 1 MiB. */
+/** The calls from Java: answers, typed calls, odd texts, schemas that are read once, memory, four threads, and a deep condition on a thread of 1 MiB. */
 public final class CedarTest {
     static final String SCHEMA = "{\"schema\":\"entity U{a?:Long};action v appliesTo{principal:U,resource:U};\",";
     static final String CALL = SCHEMA + "\"policies\":{\"staticPolicies\":{\"x\":\"permit(principal,action,resource) when {principal.a == 1};\"}}}";
@@ -45,6 +45,39 @@ public final class CedarTest {
         }
     }
 
+    static final String ONLY = SCHEMA.substring(0, SCHEMA.length() - 1) + "}";
+    static final String BY = CALL.replace(SCHEMA, "{");
+
+    static void schemas(String wanted) throws Exception {
+        Schema closed;
+        try (Schema schema = Schema.open(ONLY)) {
+            closed = schema;
+            for (int i = 0; i < 3; i++) check(schema.validate(BY).equals(wanted));
+            check(schema.checkData("{\"entities\":[]}").contains("\"conforms\":true"));
+            String policy = "\"policy\":\"permit(principal,action,resource) when {principal == resource};\"}";
+            check(schema.typedConditions("{" + policy).equals(Cedar.typedConditions(SCHEMA + policy)));
+            String many = "\"policies\":\"" + "permit(principal,action,resource) when {principal.a == 1};".repeat(200) + "\"}";
+            String whole = Cedar.validate(SCHEMA + many);
+            check(whole.length() > 4 * many.length() + 4096 && schema.validate("{" + many).equals(whole));
+            inThreads(() -> { for (int i = 0; i < 1000; i++) check(schema.validate(BY).equals(wanted)); }, 4);
+        }
+        closed.close();
+        try {
+            closed.validate(BY);
+            check(false);
+        } catch (IllegalStateException error) {
+            check(error.getMessage().contains("closed"));
+        }
+        for (String text : new String[] {"", "{}", "{\"schema\":\"entity\"}"}) {
+            try {
+                Schema.open(text);
+                check(false);
+            } catch (Schema.Refused error) {
+                check(error.failure().startsWith("{\"type\":\"failure\""));
+            }
+        }
+    }
+
     static void inThreads(Runnable body, int count) throws Exception {
         Throwable[] thrown = new Throwable[1];
         Thread[] threads = new Thread[count];
@@ -62,10 +95,12 @@ public final class CedarTest {
         answers(wanted);
         typed(wanted);
         oddTexts();
+        schemas(wanted);
         run(CALLS / 2, wanted);
         System.gc();
         long before = resident();
         run(CALLS, wanted);
+        for (int i = 0; i < CALLS / 10; i++) Schema.open(ONLY).close();
         check(resident() - before < 1 << 26);
         inThreads(() -> run(CALLS / 4, wanted), 4);
         String deep = SCHEMA + "\"policies\":\"permit(principal,action,resource) when {" + "(".repeat(396) + "true" + " || true)".repeat(396) + "};\"}";
