@@ -28,19 +28,31 @@ entity Group in [Group];
 entity User in [Group] { name: String, age?: Long, vip: Bool, boss: User, home?: Album, card: { level: Long } };
 entity Album in [Album] { name: String, age?: Long, vip: Bool, boss: User, home?: Album, card: { level: Long } };
 entity Photo in [Album] { owner: User, backup?: User, album: Album, near?: Album, group: Group, title: String, tag: String, note?: String,
-  level: Long, size: Long, rank?: Long, public: Bool, draft: Bool, secret?: Bool, labels: Set<String>, "select": String, "a'b\\"c": Long };
+  level: Long, size: Long, rank?: Long, public: Bool, draft: Bool, secret?: Bool, labels: Set<String>, "select": String, "a'b\\"c": Long,
+  place: { city: String, floor?: Long, spot: { x: Long, y?: Long } }, frame?: { width: Long, glass?: Bool, maker: User } };
 action read;
 action view, share in [read] appliesTo { principal: User, resource: Photo, context: Context };
 action sync appliesTo { principal: Album, resource: Photo, context: Context };
 """
-# What the principal, and the users behind it, and the context give: each path, and its kind. Behind the principal a value may be missing because an
-# entity is not stored, but only an optional attribute needs a test before it.
+# What the principal, the context, the resource and the entities behind them give: each path, and its kind. Behind an entity a value may be missing
+# because the entity is not stored, but only an optional attribute needs a test before it.
 PATHS = {"principal.name": "S", "principal.age": "L", "principal.vip": "B", "principal.boss": "User", "principal.home": "Album", "principal.card.level": "L",
          "principal.boss.name": "S", "principal.boss.boss": "User", "principal.boss.age": "L", "context.day": "L", "context.note": "S",
-         "context.device.trusted": "B", "context.device.owner": "User", "context.who": "User", "context.who.name": "S", "context.who.age": "L"}
-OPTIONAL_PATHS = ("principal.age", "principal.home", "principal.boss.age", "context.note", "context.device.owner", "context.who.age")
-# (behind a value that may be missing NULL does not tell whether an attribute is missing)
-TESTED_PATHS = tuple(path for path in PATHS if path.count(".") == 1 or path.startswith("context.device"))
+         "context.device.trusted": "B", "context.device.owner": "User", "context.who": "User", "context.who.name": "S", "context.who.age": "L",
+         "resource.owner.name": "S", "resource.owner.vip": "B", "resource.owner.boss": "User", "resource.owner.boss.boss.name": "S", "resource.owner.age": "L",
+         "resource.owner.home": "Album", "resource.owner.boss.home": "Album", "resource.owner.card.level": "L", "resource.album.name": "S",
+         "resource.album.boss": "User", "resource.album.boss.vip": "B", "resource.album.age": "L", "resource.place.city": "S", "resource.place.floor": "L",
+         "resource.place.spot.x": "L", "resource.place.spot.y": "L", "resource.frame.width": "L", "resource.frame.glass": "B", "resource.frame.maker": "User",
+         "resource.frame.maker.name": "S", "resource.backup.name": "S", "resource.near.boss": "User", 'User::"bob".name': "S", 'User::"bob".boss.vip': "B",
+         'Album::"it\'s".age': "L"}
+# The attributes on a path that are optional.
+OPTIONAL_STEPS = {"age", "home", "note", "floor", "y", "frame", "glass", "backup", "near"}
+OPTIONAL_PATHS = tuple(path for path in PATHS if OPTIONAL_STEPS & set(path.split(".")) or path == "context.device.owner")
+RECORDS = {"card", "device", "place", "spot", "frame"}
+# Tests: what stands before `has`, and the attributes behind it. (A record has no column of its own, so nothing tells whether one behind an entity or
+# an optional one is there.)
+TESTS = tuple((".".join(names[:n]), ".".join(names[n:])) for path in PATHS for names in [path.split(".")] for n in range(1, len(names))
+              if names[n - 1] not in RECORDS or names[:n] in (["context", "device"], ["resource", "place"], ["resource", "place", "spot"]))
 # The kind of each attribute, by the schema: B, L, S, or an entity type.
 ATTRIBUTES = {"owner": "User", "backup": "User", "album": "Album", "near": "Album", "group": "Group", "title": "S", "tag": "S", "note": "S",
               "level": "L", "size": "L", "rank": "L", "public": "B", "draft": "B", "secret": "B", "select": "S", "a'b\"c": "L"}
@@ -82,8 +94,7 @@ def show(e):
     if form == "path":
         return e[1]
     if form == "has path":
-        base, _, name = e[1].rpartition(".")
-        return f"{base} has {name}"
+        return f"{e[1]} has {e[2]}"
     if form == "contains":
         return f"[{', '.join(cedar_text(text) for text in e[1])}].contains({show(e[2])})"
     if form == "lit":
@@ -100,6 +111,8 @@ def show(e):
         return f"({show(e[1])}) is {e[2]}"
     if form == "in any":
         return f"({show(e[1])}) in [{', '.join(show(x) for x in e[2])}]"
+    if form == "if":
+        return f"(if {show(e[1])} then {show(e[2])} else {show(e[3])})"
     return f"({show(e[1])}) {INFIX[form]} ({show(e[2])})"
 
 
@@ -108,10 +121,11 @@ def matches(pattern, text):
     return re.fullmatch("".join(".*" if c is Ellipsis else re.escape(c) for c in pattern), text, re.S) is not None
 
 
-def follow(path, world):
-    """The value at the end of a path: of records and of entities that are stored. None where an attribute or an entity is missing."""
-    name, *names = path.split(".")
-    value = world[name]
+def follow(path, world, row=None):
+    """The value at the end of a path: of records, of entities that are stored, and of the resource. None where an attribute or an entity is missing."""
+    first, *names = path.split(".")
+    kind, _, eid = first.partition("::")
+    value = (kind, eid[1:-1]) if eid else row if first == "resource" else world[first]
     for name in names:
         value = (world["stored"].get(value, {}) if isinstance(value, tuple) else value).get(name, FAIL)
         if value is FAIL:
@@ -121,7 +135,8 @@ def follow(path, world):
 
 def parameters(world):
     """What a query's parameters have to be bound to."""
-    return {"principal": world["principal"][1], **{path.replace(".", "$"): cell(follow(path, world)) for path in PATHS}}
+    asked = (path for path in PATHS if path.startswith(("principal.", "context.")))
+    return {"principal": world["principal"][1], **{path.replace(".", "$"): cell(follow(path, world)) for path in asked}}
 
 
 def evaluator(e, world):
@@ -134,11 +149,17 @@ def evaluator(e, world):
         name = e[1]
         return lambda row: name in row
     if form == "path":
-        value = follow(e[1], world)
+        path = e[1]
+        if path.startswith("resource."):
+            return lambda row: follow(path, world, row)
+        value = follow(path, world)
         return lambda row: value
     if form == "has path":
-        value = follow(e[1], world) is not FAIL
-        return lambda row: value
+        base, whole = e[1], f"{e[1]}.{e[2]}"
+        return lambda row: FAIL if follow(base, world, row) is FAIL else follow(whole, world, row) is not FAIL
+    if form == "if":
+        test, then, otherwise = (evaluator(part, world) for part in e[1:])
+        return lambda row: FAIL if (v := test(row)) is FAIL else then(row) if v else otherwise(row)
     if form == "contains":
         texts, member = e[1], evaluator(e[2], world)
         return lambda row: FAIL if (v := member(row)) is FAIL else v in texts
@@ -198,6 +219,7 @@ class Conditions:
 
     def __init__(self, rng, guarded):
         self.rng, self.guarded = rng, guarded
+        self.tests = [(base, names) for base, names in TESTS if not guarded or not OPTIONAL_STEPS & set(base.split("."))]
 
     def attribute(self, kind):
         names = [n for n, k in ATTRIBUTES.items() if k == kind and not (self.guarded and n in OPTIONAL)]
@@ -208,10 +230,12 @@ class Conditions:
 
     def term(self, kind):
         r = self.rng.random()
-        if r < 0.45:
+        if r < 0.4:
             return self.attribute(kind)
         if r < 0.7 and kind in PATHS.values() and (kind != "Album" or not self.guarded):
             return self.path(kind)
+        if r < 0.73 and len(kind) == 1:
+            return ("if", self.leaf(), self.term(kind), self.term(kind))
         if kind == "S":
             return ("lit", self.rng.choice(TEXTS))
         if kind == "L":
@@ -238,11 +262,12 @@ class Conditions:
         if r < 0.13:
             return ("has", choose([n for n in ATTRIBUTES]))
         if r < 0.15:
-            return ("has path", choose(TESTED_PATHS))
+            return ("has path", *choose(self.tests))
         if r < 0.2:
-            path = choose([p for p in OPTIONAL_PATHS if p in TESTED_PATHS])
+            base, names = choose([test for test in self.tests if ".".join(test) in OPTIONAL_PATHS])
+            path = f"{base}.{names}"
             kind = PATHS[path]
-            return ("and", ("has path", path), ("eq", ("path", path), self.entity() if len(kind) > 1 else self.term(kind)))
+            return ("and", ("has path", base, names), ("eq", ("path", path), self.entity() if len(kind) > 1 else self.term(kind)))
         if r < 0.23:
             return ("contains", tuple(choose(TEXTS) for _ in range(self.rng.randrange(1, 4))), self.term("S"))
         if r < 0.3:
@@ -279,6 +304,8 @@ class Conditions:
             return ("or", self.condition(depth - 1), self.condition(depth - 1))
         if r < 0.93:
             return ("not", self.condition(depth - 1))
+        if r < 0.96:
+            return ("if", self.condition(depth - 2), self.condition(depth - 2), self.condition(depth - 2))
         return (self.rng.choice(["eq", "ne"]), self.condition(depth - 2), self.condition(depth - 2))
 
 
@@ -306,9 +333,15 @@ def store(rng):
                 continue
             row[name] = {"S": lambda: rng.choice(TEXTS), "L": lambda: rng.choice(NUMBERS), "B": lambda: rng.random() < 0.5}.get(
                 kind, lambda kind=kind: (kind, rng.choice(IDS)))()
+        row["place"] = {"city": rng.choice(TEXTS), "spot": {"x": rng.choice(NUMBERS)} | some(rng, {"y": rng.choice(NUMBERS)})} | some(rng, {"floor": rng.choice(NUMBERS)})
+        row |= some(rng, {"frame": {"width": rng.choice(NUMBERS), "maker": ("User", rng.choice(IDS))} | some(rng, {"glass": rng.random() < 0.5})})
         rows.append(row)
         ancestors["Photo", row["::eid"]] = {a for a in albums if rng.random() < 0.2}
     return rows, ancestors
+
+
+def some(rng, attributes):
+    return {name: value for name, value in attributes.items() if rng.random() < 0.6}
 
 
 def request(rng, principal_type, action, ancestors):
@@ -327,15 +360,34 @@ def cell(value):
     return value[1] if isinstance(value, tuple) else int(value) if isinstance(value, bool) else value
 
 
+def column_value(eid, attributes, name):
+    value = eid if name == "eid" else attributes
+    for part in name.split(".") if name != "eid" else ():
+        value = value.get(part, FAIL) if value is not FAIL else FAIL
+    return cell(value)
+
+
+def fill(db, kind, entities):
+    """Puts entities, ids with attributes, into the table of their type, in place of those in it."""
+    columns = [name for _, name, *_ in db.execute(f'pragma table_info("{kind}")')]
+    if columns:
+        db.execute(f'delete from "{kind}"')
+        marks = ", ".join("?" * len(columns))
+        db.executemany(f'insert into "{kind}" values ({marks})', [[column_value(eid, attributes, name) for name in columns] for eid, attributes in entities])
+
+
+def fill_stored(db, world):
+    """The tables of the entities behind the resource, as the request's store has them."""
+    for kind in ("User", "Album"):
+        fill(db, kind, [(eid, attributes) for (k, eid), attributes in world["stored"].items() if k == kind])
+
+
 def database(tables, rows, ancestors):
     db = sqlite3.connect(":memory:")
     for table in tables:
-        db.execute(table)
-    columns = [name for _, name, *_ in db.execute('pragma table_info("Photo")')]
-    marks = ", ".join("?" * len(columns))
-    for row in rows:
-        values = [row["::eid"] if name == "eid" else cell(row[name]) if name in row else None for name in columns]
-        db.execute(f'insert into "Photo" values ({marks})', values)
+        if not table.startswith("- "):
+            db.execute(table)
+    fill(db, "Photo", [(row["::eid"], row) for row in rows])
     for (kind, eid), above in ancestors.items():
         db.executemany('insert into "entity ancestors" values (?, ?, ?, ?)', [(kind, eid, k, i) for k, i in above])
     return db
@@ -389,7 +441,7 @@ def read_queries(output):
     for block in blocks:
         title, _, rest = block.partition("\n")
         principal, action, _ = title.split(", ")
-        if rest.startswith("CREATE TABLE"):
+        while rest.startswith("CREATE TABLE"):
             table, _, rest = rest.partition(";\n")
             tables.append(table)
         # (before the query there is a line for each policy that has no clause)
@@ -436,6 +488,7 @@ def check_clauses(tally, clauses_of, rng):
         compiled += 1
         world = request(rng, principal_type, action, ancestors)
         evaluate = evaluator(e, world)
+        fill_stored(db, world)
         have = dict(db.execute(f'select "Photo"."eid", {clause} from "Photo"', parameters(world)))
         wrong = 0
         for row in rows:
@@ -459,6 +512,7 @@ def check_sets(tally, queries_of, rng):
         db = database(unique(tables), rows, ancestors)
         for (principal_type, action), query in queries.items():
             world = request(rng, principal_type, action, ancestors)
+            fill_stored(db, world)
             tests = [(effect, evaluator(e, world)) for effect, e in made.values()]
             have = {eid for eid, in db.execute(query, parameters(world))}
             want = set()
@@ -483,19 +537,29 @@ HAVE = ("true", "resource.public", "!resource.public", "resource.public && resou
         "principal.name == \"a\"", "principal has age && principal.age < 7", "principal.card.level == resource.level", "principal.boss.boss == resource.owner",
         "context.day < 7", "context.device.trusted", "context has note && context.note like \"a*\"", "context.who in Group::\"7\"",
         "context.device has owner && context.device.owner == principal", "[\"a\", \"it's\"].contains(resource.title)",
+        "resource.owner.name == \"a\"", "resource.owner.boss.boss == principal", "resource.owner has age && resource.owner.age < 7", "resource.owner.boss has age",
+        "principal.boss has age", "principal.boss has home.name", "resource.place.city like \"a*\"", "resource.place.spot.x <= resource.owner.card.level",
+        "resource has frame.width && resource.frame.width == 1", "resource.place has spot.y", "resource has backup.home.boss", "User::\"bob\".boss == principal",
+        "User::\"bob\" has age", "principal in resource.album.boss", "if resource.public then resource.draft else true", "(if resource.public then 1 else resource.level) < 7",
+        "(if resource.owner has age then resource.title else \"b\") == \"b\"",
         "[\"a\"].contains(principal.name)", "resource.title == \"\\u{fffe}\"", "resource.title like \"*\\u{fffc}\"")
+NO_COLUMN = "no column and no parameter has this value"
+NO_PATH = "no path of declared attributes leads here"
+NO_IF = "`if` has a clause only of truth values, numbers or texts"
 NO_PATTERN = "a pattern with NUL, a backslash, U+FFFD, U+FFFE or U+FFFF has no clause"
 HAVE_NONE = (("resource.level + 1 == 7", "SQL's arithmetic does not fail as Cedar's does"), ("-resource.level == 7", "SQL's arithmetic does not fail as Cedar's does"),
-             ("if resource.public then resource.draft else true", "`if` has no clause"), ("resource.labels.contains(\"a\")", "no column has this attribute"),
+             ("(if resource.public then resource.owner else principal) == principal", NO_IF), ("(if resource.public then 1 else \"a\") == 1", NO_IF),
+             ("resource.labels.contains(\"a\")", NO_COLUMN), ("resource has frame", NO_COLUMN), ("resource.frame has glass", NO_COLUMN),
+             ("resource.owner.card has level", NO_COLUMN), ("resource.place == resource.place", NO_COLUMN), ("resource.owner.card == principal.card", NO_COLUMN),
              ("[\"a\", principal.name].contains(resource.title)", "a set has no clause"), ("[\"a\\\\\"].contains(resource.title)", "a set has no clause"),
-             ("[1].contains(resource.level)", "a set has no clause"), ("principal.card == principal.boss.card", "no parameter has this value"),
-             ("principal.boss has age", "no parameter has this value"), ("context has device", "no parameter has this value"),
+             ("[1].contains(resource.level)", "a set has no clause"), ("principal.card == principal.boss.card", NO_COLUMN),
+             ("context has device", NO_COLUMN), ("resource.owner.labels == resource.labels", NO_PATH), ("resource.owner[\"a\\\\\"]", NO_PATH),
              ("principal in [resource.group, Group::\"7\"]", "a set has no clause"), ("resource.title == \"a\\0\"", "a text with NUL or a backslash has no clause"),
              ("resource.title == \"\\\\\"", "a text with NUL or a backslash has no clause"), ("resource.title like \"*\\\\\"", NO_PATTERN),
              ("resource.title like \"\\0\"", NO_PATTERN), ("resource.title like \"\\u{fffd}\"", NO_PATTERN),
              ("resource.title like \"a\\u{fffe}*\"", NO_PATTERN), ("resource.title like \"*\\u{ffff}\"", NO_PATTERN),
-             ("principal == User::\"a\\\\' OR 1 = 1 --\"", "a text with NUL or a backslash has no clause"), ("context has x", "only attributes of the resource are in its row"),
-             ("{a: resource.public}.a", "only attributes of the resource are in its row"), ("resource.owner has x", "only attributes of the resource are in its row"))
+             ("principal == User::\"a\\\\' OR 1 = 1 --\"", "a text with NUL or a backslash has no clause"), ("context has x", NO_PATH),
+             ("{a: resource.public}.a", NO_PATH), ("resource.owner has x", NO_PATH), ("resource has place.x", NO_PATH), ("resource.title has x", NO_PATH))
 
 
 def check_forms(tally, clauses_of):
@@ -517,7 +581,13 @@ OF_ABSENT = (("resource.rank == 1", None), ("!(resource.rank == 1)", None), ("re
              ("resource.secret || true", None), ("true || resource.secret", 1), ("false || resource.secret", None), ("resource.secret || resource.secret", None),
              ("(false && resource.secret) || true", 1), ("(resource.secret && false) || true", None), ("!(true || resource.secret)", 0),
              ("(resource.secret || true) == true", None), ("resource.secret == resource.secret", None), ("resource has secret", 0), ("!(resource has secret)", 1),
-             ("resource has secret && resource.secret", 0), ("!(resource has secret && resource.secret)", 1), ("(resource has secret && resource.secret) || true", 1))
+             ("resource.frame.width == 1", None), ("resource has frame.width", 0), ("resource has frame.glass", 0),
+             ("resource.place has floor", 0), ("resource.place.spot.y == 1", None), ("resource.place.city == resource.place.city", 1), ("resource.owner.name == \"a\"", None),
+             ("resource.owner has age", 0), ("resource.owner has boss.age", 0), ("resource.owner.boss has age", None), ("resource.owner.boss.boss == principal", None),
+             ("principal in resource.album.boss", None), ("resource.owner.vip || true", None), ("true || resource.owner.vip", 1), ("resource.backup has age", None),
+             ("resource has backup.age", 0), ("User::\"bob\" has age", 0), ("User::\"bob\".vip", None), ("if resource.secret then true else true", None),
+             ("if true then true else resource.secret", 1), ("if false then true else resource.secret", None), ("(if resource has secret then resource.secret else true)", 1),
+             ("(if resource.secret then 1 else 2) < 3", None), ("resource has secret && resource.secret", 0), ("!(resource has secret && resource.secret)", 1), ("(resource has secret && resource.secret) || true", 1))
 
 
 def check_absent(tally, clauses_of):
@@ -525,7 +595,8 @@ def check_absent(tally, clauses_of):
     done = clauses_of(SCHEMA, "".join(policy_text(f"p{n}", "permit", condition) for n, (condition, _) in enumerate(OF_ABSENT)))
     tables, clauses = read_cases(done.stdout)
     rows, ancestors = store(random.Random(1))
-    db = database(unique(tables), [{name: value for name, value in rows[0].items() if name not in OPTIONAL}], ancestors)
+    bare = {name: value for name, value in rows[0].items() if name not in OPTIONAL and name != "frame"}
+    db = database(unique(tables), [bare | {"place": {"city": "a", "spot": {"x": 1}}}], ancestors)
     for n, (condition, want) in enumerate(OF_ABSENT):
         clause = clauses[f"p{n}"][0]
         (have,), = db.execute(f'select {clause} from "Photo"', {"principal": "bob"} if ":principal" in clause else {})
@@ -687,6 +758,9 @@ def check_tables(tally, clauses_of):
     for declared, resource, says in (
             ("entity Photo { eid: Long };", "Photo", '- attribute "eid" would have the same column as another'),
             ("entity Photo { a: Long, A: Long };", "Photo", '- attribute "a" would have the same column as another'),
+            ('entity Photo { "a.b": Long, a: { B: Long } };', "Photo", '- attribute "a.b" would have the same column as another'),
+            ("entity Photo { a: { b?: { c: Long } }, d?: { e: Bool } };", "Photo", 'CREATE TABLE "Photo" ("eid" TEXT NOT NULL PRIMARY KEY, "a.b.c" INTEGER, '
+             '"d.e" INTEGER CHECK ("d.e" IN (0, 1))) STRICT'),
             ("entity sqlite_photo;", "sqlite_photo", "- SQLite keeps names that begin with `sqlite_`"),
             ("entity SQLite_photo;", "SQLite_photo", "- SQLite keeps names that begin with `sqlite_`"),
             ("entity Photo, photo;", "photo", "- entity type `Photo` would have the same table"),
@@ -694,7 +768,7 @@ def check_tables(tally, clauses_of):
             ("entity sqlitephoto;", "sqlitephoto", 'CREATE TABLE "sqlitephoto" ("eid" TEXT NOT NULL PRIMARY KEY) STRICT'),
             ("namespace N { entity sqlite_photo; }", "N::sqlite_photo", 'CREATE TABLE "N::sqlite_photo" ("eid" TEXT NOT NULL PRIMARY KEY) STRICT')):
         tables, _ = read_cases(clauses_of(f"entity User;\n{declared}\naction view appliesTo {{ principal: User, resource: {resource} }};\n", "").stdout)
-        tally.check(tables[1] == says, (says, tables))
+        tally.check(says in tables, (says, tables))
 
 
 def main(words):

@@ -15,7 +15,7 @@ import where_cases  # noqa: E402
 
 TOP = 4096
 SCHEMA = """entity Group in [Group];
-entity User in [Group];
+entity User in [Group] {{ boss: User, vip: Bool }};
 entity Photo in [Group] {{ owner: User, public: Bool, level: Long{optional} }};
 action view appliesTo {{ principal: User, resource: Photo }};
 """
@@ -46,6 +46,9 @@ ROWS = {
     "`((..) || a) && b`": nested("((", ") || resource.level < 1) && resource.level < 2"),
     "`a && (a && (..`": nested("resource.level < 1 && (", ")"),
     "`!(a && !(..`": nested("!(resource.level < 1 && ", ")"),
+    "`if a then b else if c then ..`": nested("if resource.level < 1 then resource.level < 2 else ", ""),
+    "`if (if (.. then a else b) ..`": nested("if (", ") then resource.level < 1 else resource.level < 2"),
+    "`owner.boss.boss ..`": lambda size: permit("resource.owner" + ".boss" * size + ".vip"),
     "`has o && (o == 1 || (..`": lambda size: permit("".join(f"(resource has o{n} && (resource.o{n} == 1 || " for n in range(size)) + "resource.public" + "))" * size),
 }
 

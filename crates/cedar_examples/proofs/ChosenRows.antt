@@ -100,7 +100,8 @@ module _ (b : Basis) (world : World) (d : Data) (row : IsRowOf world d) (p : Lin
   row_of_link = record {
     entity = row.entity;
     stored = row.stored;
-    attributes = row.attributes;
+    columns = row.columns;
+    tables = row.tables;
     own_id = row.own_id;
     principal = row.principal;
     parameters = row.parameters;

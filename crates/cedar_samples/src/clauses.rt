@@ -2,7 +2,7 @@
 // none. A failed check leaves its clause too, so that clauses of conditions that fail in evaluation are run.
 // scripts/where_cases.py runs it.
 use crate::texts::*;
-use cedar_types::base::{CedarType, Expr, ValidatorSchema};
+use cedar_types::base::{CedarType, EntityType, Expr, ValidatorSchema};
 use cedar_types::types::request_env::RequestEnv;
 use cedar_typing::typecheck::ConditionCheck;
 use cedar_where::{AncestorTable, Refusal, SqlExpr, Table, where_clause};
@@ -17,8 +17,8 @@ pub fn run(rt: &HostRuntime, files: Files<'_>) -> Result<(), HostError> {
     let checker = Typechecker::new(&schema, &extensions, ValidationMode::Strict);
     let ancestors = AncestorTable.to_string(alloc)?;
     print_text(rt, ancestors.as_str())?;
-    for env in schema.unlinked_request_envs(ValidationMode::Strict) {
-        print_table(rt, &schema, &env)?;
+    for entity_type in &schema.entity_type_names(alloc)? {
+        print_type(rt, &schema, entity_type)?;
     }
     for policy in &policies {
         for env in schema.unlinked_request_envs(ValidationMode::Strict) {
@@ -65,17 +65,14 @@ fn print_text(rt: &HostRuntime, text: &str) -> io::Result<()> {
     println!(rt; "{} {text}", text.len())
 }
 
-/// The table of an environment's resources.
-fn print_table(
+/// The table of an entity type.
+fn print_type(
     rt: &HostRuntime,
     schema: &ValidatorSchema,
-    env: &RequestEnv<'_>,
+    entity_type: &EntityType,
 ) -> Result<(), HostError> {
     let alloc = rt.alloc();
-    let Some(resource) = env.resource_entity_type() else {
-        return Ok(());
-    };
-    match Table::of_type(alloc, schema, resource)? {
+    match Table::of_type(alloc, schema, entity_type)? {
         Ok(table) => {
             let text = table.to_string(alloc)?;
             print_text(rt, text.as_str())?;

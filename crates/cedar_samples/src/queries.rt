@@ -8,8 +8,8 @@ use cedar_where::{AncestorTable, Refusal, SqlExpr, Table, joined, where_clause};
 use std::fs;
 
 /// Prints, for each environment of the schema of a file, the query of the resources that the policies of another file allow,
-/// and each table before the first query that needs it. A set with two policies of one id, or with one that validation does not accept, has
-/// no query; nor has an environment in which some policy has no clause.
+/// and each table before the first query that needs it. A set with two policies of one id, or with one that validation does not
+/// accept, has no query; nor has an environment in which some policy has no clause, or a query reads a type without a table.
 pub fn run(rt: &HostRuntime, files: Files<'_>) -> Result<(), HostError> {
     let alloc = rt.alloc();
     let schema = whole_schema(alloc, &fs::read_to_string(rt, files.schema)?)?;
@@ -64,11 +64,8 @@ fn print_queries<C: ArgumentCheck>(
         } = &env
         {
             println!(rt; "\n-- {principal}, {action}, {resource}")?;
-            if !is_among(&printed, resource) {
-                print_table(rt, schema, resource)?;
-                printed.push(EntityType::clone(resource)?)?;
-            }
-            print_query(rt, schema, &checker, policies, &env, resource)?;
+            print_new_table(rt, schema, &mut printed, resource)?;
+            print_query(rt, schema, &checker, policies, &env, resource, &mut printed)?;
         }
     }
     Ok(())
@@ -83,16 +80,21 @@ fn is_among(types: &[EntityType], one: &EntityType) -> bool {
     false
 }
 
-/// The table of a type of resources, or the reason why there is none.
-fn print_table(
+/// The table of an entity type, or the reason why there is none, if no line before has it.
+fn print_new_table(
     rt: &HostRuntime,
     schema: &ValidatorSchema,
-    resource: &EntityType,
+    printed: &mut Vec<EntityType>,
+    entity_type: &EntityType,
 ) -> Result<(), HostError> {
-    match Table::of_type(rt.alloc(), schema, resource)? {
-        Ok(table) => println!(rt; "{table};")?,
-        Err(fault) => println!(rt; "-- no table: {fault}")?,
+    if is_among(printed, entity_type) {
+        return Ok(());
     }
+    match Table::of_type(rt.alloc(), schema, entity_type)? {
+        Ok(table) => println!(rt; "{table};")?,
+        Err(fault) => println!(rt; "-- no table of {entity_type}: {fault}")?,
+    }
+    printed.push(EntityType::clone(entity_type)?)?;
     Ok(())
 }
 
@@ -112,6 +114,7 @@ fn print_query<C: ArgumentCheck>(
     policies: &[WrittenPolicy],
     env: &RequestEnv<'_>,
     resource: &EntityType,
+    printed: &mut Vec<EntityType>,
 ) -> Result<(), HostError> {
     let alloc = rt.alloc();
     let Ok(table) = Table::of_type(alloc, schema, resource)? else {
@@ -128,8 +131,30 @@ fn print_query<C: ArgumentCheck>(
         return Ok(());
     }
     let query = joined(alloc, permits, forbids)?;
-    println!(rt; "{};", table.query(&query))?;
+    let types = query.types_read(alloc)?;
+    for entity_type in &types {
+        print_new_table(rt, schema, printed, entity_type)?;
+    }
+    if have_tables(rt, schema, &types)? {
+        println!(rt; "{};", table.query(&query))?;
+    } else {
+        println!(rt; "-- no query")?;
+    }
     Ok(())
+}
+
+/// Whether each of these entity types has a table.
+fn have_tables(
+    rt: &HostRuntime,
+    schema: &ValidatorSchema,
+    types: &[EntityType],
+) -> Result<bool, HostError> {
+    for entity_type in types {
+        if Table::of_type(rt.alloc(), schema, entity_type)?.is_err() {
+            return Ok(false);
+        }
+    }
+    Ok(true)
 }
 
 /// The clauses of the policies in an environment. If a policy has none, the reason is printed.

@@ -1,4 +1,4 @@
--- Columns of attributes: each holds the value that the resource has.
+-- Values of attributes in cells, and tests of them.
 use Rattle.std.proofs.Common.{◌≡◌, Bool, true, false, ◌||◌, not, List, [], ◌∷◌, Option, Some, None, is_some, if◌then◌else◌, refl, sym, ap, subst, ◌∙◌}
 use Rattle.std.specs.Prelude.{IsTrue}
 use Rattle.cedar_types.specs.Lemmas.Comparisons.{path_same}
@@ -9,16 +9,14 @@ use Rattle.cedar_types.specs.Types.Lookups.{kind_attribute, declared_kind_attrib
 use Rattle.cedar_types.specs.Values.{Value, VBool, VLong, VString, VEntity, entry_at, HasType}
 use Rattle.cedar_types.specs.Values.Stores.{Entity, FitsKind, FitsDeclaration}
 use Rattle.cedar_types.specs.Names.{Uid}
-use Rattle.cedar_typing.proofs.Basics.{or_cases, not_true}
+use Rattle.cedar_typing.proofs.Basics.{or_cases}
 use Rattle.cedar_typing.proofs.Bounds.Attributes.{AttrAt, found_at}
 use Rattle.cedar_typing.specs.Evaluation.Eval.{attribute_value}
-use Rattle.cedar_typing.specs.Evaluation.World.{Failure, AbsentAttribute, Outcome, Gives, Fails}
-use Rattle.cedar_where.specs.Compiled.{Kind, KBool, KLong, KText, KEntity, Term, term, is_plain, entity_kind, column_kind, column_of_kind}
-use Rattle.cedar_where.specs.Compiled.{column_term, has_value}
-use Rattle.cedar_where.specs.Rows.{cell_at}
+use Rattle.cedar_typing.specs.Evaluation.World.{Failure, Outcome, Gives, Fails}
+use Rattle.cedar_where.specs.Compiled.{Kind, KBool, KLong, KText, KEntity, Term, entity_kind, column_kind, has_value}
 use Rattle.cedar_where.specs.Rows as rows
-use Rattle.cedar_where.specs.Sql.{Cell, Null, Truth, Data, Sql, sql_column, value, not_null_cell, uid}
-use Rattle.cedar_where.proofs.Parts.{Held, Answer, there, gone, outcome_of, cell_of, Agree, OnTerm, IsRight, if_plain, not_null_held}
+use Rattle.cedar_where.specs.Sql.{Cell, Null, Truth, Data, value, not_null_cell, uid}
+use Rattle.cedar_where.proofs.Parts.{Held, Answer, there, gone, outcome_of, cell_of, Agree, OnTerm, IsRight, not_null_held}
 
 -- ---- an entity's attribute is as its type declares it
 
@@ -69,22 +67,6 @@ pub absent : (f : Failure) (r : Bool) → r ≡ false → (k : Option Kind) → 
 absent f r e None = tt
 absent f r e (Some k) = (gone f e, refl, refl)
 
-attribute_agrees : (a : Ty × Bool) (v : Option Value) → AttrAt (Some a) v
-    → OfKind a.1 (attribute_value v) (cell_at v) (column_kind a.0)
-attribute_agrees a None h = absent AbsentAttribute a.1 (not_true a.1 h) (column_kind a.0)
-attribute_agrees a (Some v) h = typed_value a.1 a.0 v h
-
-module _ (d : Data) (x : Text) (v : Option Value) (cell : d.cells x ≡ cell_at v) where
-  of_kind : (r : Bool) (k : Option Kind) → OfKind r (attribute_value v) (cell_at v) k
-      → OnTerm (IsRight d (attribute_value v)) (column_of_kind x r k)
-  of_kind r None h = tt
-  of_kind r (Some k) h =
-      if_plain (IsRight d (attribute_value v)) (is_plain x) (term (sql_column x) k r) (h.0, h.1, cell ∙ h.2)
-
-  pub column_right : (f : Option (Ty × Bool)) → AttrAt f v → OnTerm (IsRight d (attribute_value v)) (column_term x f)
-  column_right None h = tt
-  column_right (Some a) h = of_kind a.1 (column_kind a.0) (attribute_agrees a v h)
-
 -- ---- `has`
 
 -- whether there is a value
@@ -96,7 +78,7 @@ pub some_gives : (v : Option Value) → is_some v ≡ gives (attribute_value v)
 some_gives None = refl
 some_gives (Some v) = refl
 
-has_answer : (k : Kind) (r : Bool) (o : Outcome) (c : Cell) → Agree k r o c
+pub has_answer : (k : Kind) (r : Bool) (o : Outcome) (c : Cell) → Agree k r o c
     → Agree KBool true (Gives (VBool (gives o))) (not_null_cell c)
 has_answer k r o c (there w, p, q) =
     (there true, ap (λ z. Gives (VBool (gives z))) p, ap not_null_cell q ∙ not_null_held k w)

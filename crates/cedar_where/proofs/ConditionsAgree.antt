@@ -6,28 +6,24 @@ use Rattle.cedar_types.specs.Environments.RequestEnvs.{Env, Declared, Undeclared
 use Rattle.cedar_types.specs.Expressions.Tree.{bool, long, string, entity, lit, var, slot, unknown, if_then_else, and, or, unary, binary}
 use Rattle.cedar_types.specs.Expressions.Tree.{call, get_attr, has_attr, ext_has_attr, like, is_type, set_of, record_of}
 use Rattle.cedar_types.specs.Names.{Text, Path, Uid}
-use Rattle.cedar_types.specs.Schemas.{Schema, type_named}
-use Rattle.cedar_types.specs.Types.Lookups.{declared_attribute}
-use Rattle.cedar_types.specs.Values.{Value, VBool, VEntity, entry_at}
-use Rattle.cedar_types.specs.Values.Stores.{ConformingStore, entity_at}
+use Rattle.cedar_types.specs.Schemas.{Schema}
+use Rattle.cedar_types.specs.Values.{Value, VBool, VEntity}
+use Rattle.cedar_types.specs.Values.Stores.{ConformingStore}
 use Rattle.cedar_typing.proofs.Basics.{some_is, none_is}
-use Rattle.cedar_typing.proofs.Bounds.Attributes.{AttrAt}
 use Rattle.cedar_typing.specs.Evaluation.Conformance.{FitsRequest}
-use Rattle.cedar_typing.specs.Evaluation.Eval.{eval, attribute_value, entity_get, entity_has, get}
-use Rattle.cedar_typing.specs.Evaluation.Outcomes.{on_value}
+use Rattle.cedar_typing.specs.Evaluation.Eval.{eval}
 use Rattle.cedar_typing.specs.Evaluation.World.{World, Outcome, Gives, Fails}
 use Rattle.cedar_typing.specs.Soundness.{IsTrueOutcome}
 use Rattle.cedar_typing.specs.TypedExpr.{Mark, TypedTree}
-use Rattle.cedar_where.specs.Compiled.{Kind, KBool, KLong, KText, KEntity, Term, term, is_bool, is_plain, text_term, entity_term}
-use Rattle.cedar_where.specs.Compiled.{variable_term, attribute_term, has_term, compiled, clause_of, clause_at}
+use Rattle.cedar_where.specs.Compiled.{Kind, KBool, KLong, KText, KEntity, Term, term, is_bool, text_term, entity_term}
+use Rattle.cedar_where.specs.Compiled.{variable_term, compiled, clause_of, clause_at}
 use Rattle.cedar_where.specs.Meaning.{IsOutcome, MeansTheCondition, ChoosesTheTrue}
-use Rattle.cedar_where.specs.Routes.{next_route, route}
+use Rattle.cedar_where.specs.Routes.{is_plain}
 use Rattle.cedar_where.specs.Rows.{IsRowOf}
 use Rattle.cedar_where.specs.Scopes.{scope_at}
 use Rattle.cedar_where.specs.Sql.{Cell, Truth, Words, Data, Sql, sql_text, value, uid}
-use Rattle.cedar_where.proofs.ColumnsAgree.{declaration_at, column_right, some_gives, has_right}
-use Rattle.cedar_where.proofs.OperatorsAgree.{and_right, or_right, unary_right, operands_right, like_right, is_right}
-use Rattle.cedar_where.proofs.RoutesAgree.{next_right, route_right, parameter_right, has_behind_right}
+use Rattle.cedar_where.proofs.OperatorsAgree.{and_right, or_right, if_right, unary_right, operands_right, like_right, is_right}
+use Rattle.cedar_where.proofs.RoutesAgree.{attribute_right, has_term_right}
 use Rattle.cedar_where.proofs.Parts.{there, gone, Agree, OnTerm, IsRight, if_plain}
 
 module _ (s : Schema) (env : DeclaredEnv) (world : World) (fits : FitsRequest env world.request)
@@ -54,42 +50,6 @@ module _ (s : Schema) (env : DeclaredEnv) (world : World) (fits : FitsRequest en
   )
   variable_right Var.Context m = tt
 
-  -- the resource's attribute is as its type declares it
-  declared : (x : Text) → AttrAt (declared_attribute s.types x env.resource) (entry_at x row.entity.attributes)
-  declared x =
-      subst (λ p. AttrAt (declared_attribute s.types x p) (entry_at x row.entity.attributes)) fits.resource
-      (declaration_at s x (type_named s.types world.request.resource.entity_type) world.request.resource row.entity
-      (conforms.entities world.request.resource row.entity row.stored))
-
-  column_of_resource : (x : Text) (m : Mark)
-      → OnTerm (IsRight d (attribute_value (entry_at x row.entity.attributes)))
-      (attribute_term (scope_at s env) (var m Var.Resource) x)
-  column_of_resource x m =
-      column_right d x (entry_at x row.entity.attributes) (row.attributes x)
-      (declared_attribute s.types x env.resource) (declared x)
-
-  attribute_right : (a : TypedTree) (x : Text) (m : Mark)
-      → OnTerm (IsRight d (eval world (get_attr m a x))) (attribute_term (scope_at s env) a x)
-  attribute_right (var n Var.Resource) x m =
-      subst (λ o. OnTerm (IsRight d o) (attribute_term (scope_at s env) (var n Var.Resource) x))
-      (sym (ap (λ q. entity_get q x) row.stored)) (column_of_resource x n)
-  attribute_right a x m =
-      parameter_right s env world fits conforms d row (on_value (eval world a) (get world.store x)) (next_route s x (route (scope_at s env) a))
-      (next_right s env world fits conforms d row x (eval world a) (route (scope_at s env) a)
-      (route_right s env world fits conforms d row a))
-
-  has_term_right : (a : TypedTree) (x : Text) (m : Mark)
-      → OnTerm (IsRight d (eval world (has_attr m a x))) (has_term (scope_at s env) a x)
-  has_term_right (var n Var.Resource) x m =
-      subst (λ o. OnTerm (IsRight d o) (has_term (scope_at s env) (var n Var.Resource) x))
-      (sym (ap (λ q. Gives (VBool (entity_has q x))) row.stored
-      ∙ ap (λ b. Gives (VBool b)) (some_gives (entry_at x row.entity.attributes))))
-      (has_right d (attribute_term (scope_at s env) (var n Var.Resource) x)
-      (attribute_value (entry_at x row.entity.attributes)) (column_of_resource x n))
-  has_term_right a x m =
-      has_behind_right s env world fits conforms d row x (eval world a) (route (scope_at s env) a)
-      (route_right s env world fits conforms d row a)
-
   part_right : (e : TypedTree) → OnTerm (IsRight d (eval world e)) (compiled (scope_at s env) e)
   part_right (lit m (bool b)) = (there b, refl, refl)
   part_right (lit m (long n)) = (there n, refl, refl)
@@ -100,7 +60,9 @@ module _ (s : Schema) (env : DeclaredEnv) (world : World) (fits : FitsRequest en
   part_right (var m x) = variable_right x m
   part_right (slot m x) = tt
   part_right (unknown m n) = tt
-  part_right (if_then_else m a b c) = tt
+  part_right (if_then_else m a b c) =
+      if_right d (compiled (scope_at s env) a) (compiled (scope_at s env) b) (compiled (scope_at s env) c) (eval world a) (eval world b)
+      (eval world c) (part_right a) (part_right b) (part_right c)
   part_right (and m a b) =
       and_right d (compiled (scope_at s env) a) (compiled (scope_at s env) b) (eval world a) (eval world b)
       (part_right a) (part_right b)
@@ -112,9 +74,9 @@ module _ (s : Schema) (env : DeclaredEnv) (world : World) (fits : FitsRequest en
       operands_right d world row.ancestors o a b (compiled (scope_at s env) a) (compiled (scope_at s env) b)
       (part_right a) (part_right b)
   part_right (call m n ts) = tt
-  part_right (get_attr m a x) = attribute_right a x m
-  part_right (has_attr m a x) = has_term_right a x m
-  part_right (ext_has_attr m a x xs) = tt
+  part_right (get_attr m a x) = attribute_right s env world fits conforms d row a x
+  part_right (has_attr m a x) = has_term_right s env world fits conforms d row a x []
+  part_right (ext_has_attr m a x xs) = has_term_right s env world fits conforms d row a x xs
   part_right (like m a p) = like_right d (compiled (scope_at s env) a) p (eval world a) (part_right a)
   part_right (is_type m a p) = is_right d (compiled (scope_at s env) a) p (eval world a) (part_right a)
   part_right (set_of m ts) = tt

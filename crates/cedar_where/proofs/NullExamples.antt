@@ -1,11 +1,11 @@
 -- NULL in each operator.
-use Rattle.std.proofs.Common.{refl}
-use Rattle.cedar_types.specs.Names.{Path, Uid}
+use Rattle.std.proofs.Common.{List, refl}
+use Rattle.cedar_types.specs.Names.{Text, Path, Uid}
 use Rattle.cedar_where.specs.NullExamples.{NullExamples}
 use Rattle.cedar_where.specs.Sql.{Data}
 
-pub null_examples : (d : Data) (p : Path) (u : Uid) → NullExamples d p u
-null_examples d p u = record {
+pub null_examples : (d : Data) (p : Path) (u : Uid) (xs : List Text) → NullExamples d p u xs
+null_examples d p u xs = record {
   negated = refl;
   and_true = refl;
   and_false = refl;
@@ -28,6 +28,7 @@ null_examples d p u = record {
   in_null = refl;
   null_in = refl;
   null_in_any = refl;
+  of_null = refl;
   is_not_null = refl;
   is_true = refl;
 }

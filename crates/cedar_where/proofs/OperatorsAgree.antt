@@ -15,19 +15,20 @@ use Rattle.cedar_types.specs.Values.Stores.{Store, entity_at}
 use Rattle.cedar_typing.specs.Evaluation.Equality.{same_value, all_values, any_value}
 use Rattle.cedar_typing.specs.Evaluation.Eval.{binary_outcome, unary_outcome, has_ancestor, is_in, is_in_entity, is_some_entity, value_in}
 use Rattle.cedar_typing.specs.Evaluation.Eval.{contains, is_of, like_outcome, matches, eval, eval_all}
-use Rattle.cedar_typing.specs.Evaluation.Outcomes.{test_of, of_test, and_test, or_test, not_test, on_value, GiveAll, more_outcomes, on_values}
+use Rattle.cedar_typing.specs.Evaluation.Outcomes.{test_of, of_test, and_test, or_test, not_test, choose, on_value, GiveAll, more_outcomes, on_values}
 use Rattle.cedar_typing.specs.Evaluation.World.{Interpretation, World, TypeFailure, Outcome, Gives, Fails}
 use Rattle.cedar_typing.specs.TypedExpr.{Mark, TypedTree}
 use Rattle.cedar_typing.proofs.Basics.{some_is, none_is}
 use Rattle.cedar_where.specs.Compiled.{Kind, KBool, KLong, KText, KEntity, Term, term, same_kind, conjunction, disjunction, and_term}
-use Rattle.cedar_where.specs.Compiled.{or_term, not_term, unary_term, difference, equality, less, less_or_equal, in_term}
-use Rattle.cedar_where.specs.Compiled.{is_plain, plain_entity, entity_literal, and_others, literals, entity_literals, in_any_of, in_any, operator_term}
+use Rattle.cedar_where.specs.Compiled.{or_term, not_term, choice, if_term, unary_term, difference, equality, less, less_or_equal, in_term}
+use Rattle.cedar_where.specs.Compiled.{plain_entity, entity_literal, and_others, literals, entity_literals, in_any_of, in_any, operator_term}
 use Rattle.cedar_where.specs.Compiled.{plain_text, text_literal, text_literals, among, among_texts, contains_term}
 use Rattle.cedar_where.specs.Compiled.{binary_of_terms, binary_term, like_term, is_plain_pattern, type_test, is_of_kind, is_term}
-use Rattle.cedar_where.specs.Sql.{Cell, Null, Truth, Data, Sql, sql_equal, sql_matches, value, uid, not_cell, and_cells, or_cells, case_cell, equal_cells}
+use Rattle.cedar_where.specs.Routes.{is_plain}
+use Rattle.cedar_where.specs.Sql.{Cell, Null, Truth, Data, Sql, sql_case, sql_equal, sql_matches, value, uid, not_cell, and_cells, or_cells, case_cell, equal_cells}
 use Rattle.cedar_where.specs.Sql.{ordered_cells, not_null_cell, matches_cell, ids_cell, id_cell, is_within, is_id_within, is_id_within_any}
 use Rattle.cedar_where.proofs.Parts.{Held, value_held, cell_held, Answer, there, gone, outcome_of, cell_of, Agree, OnTerm, IsRight}
-use Rattle.cedar_where.proofs.Parts.{if_plain, ap_both, from_one, from_two, not_null_held, null_beside_any, left_gone, right_gone}
+use Rattle.cedar_where.proofs.Parts.{if_plain, ap_both, from_one, from_two, from_three, not_null_held, null_beside_any, left_gone, right_gone}
 
 -- ---- `&&` and `||`
 
@@ -105,6 +106,47 @@ module _ (d : Data) where
       disjunction_at a.sql b.sql a.kind b.kind a.is_total b.is_total o o' h k
   or_right (Some a) None o o' h k = tt
   or_right None y o o' h k = tt
+
+-- ---- `if`
+
+abbrev if_outcome : Outcome → Outcome → Outcome → Outcome
+if_outcome o o' o'' = choose (test_of o) o' o''
+
+-- an answer of a part, for a whole that is total only if the part is
+of_part : (k : Kind) (q s : Bool) → (q ≡ false → s ≡ false) → (y : Answer k q) → Agree k s (outcome_of k q y) (cell_of k q y)
+of_part k q s h (there v) = (there v, refl, refl)
+of_part k q s h (gone f e) = (gone f (h e), refl, refl)
+
+if_answer : (k : Kind) (r q p : Bool) (x : Answer KBool r) (y : Answer k q) (z : Answer k p)
+    → Agree k (r && (q && p)) (if_outcome (outcome_of KBool r x) (outcome_of k q y) (outcome_of k p z))
+    (case_cell (cell_of KBool r x) (cell_of k q y) (cell_of k p z))
+if_answer k r q p (there true) y z = of_part k q (r && (q && p)) (λ e. right_gone r (q && p) (left_gone q p e)) y
+if_answer k r q p (there false) y z = of_part k p (r && (q && p)) (λ e. right_gone r (q && p) (right_gone q p e)) z
+if_answer k r q p (gone f e) y z = (gone f (left_gone r (q && p) e), refl, refl)
+
+module _ (d : Data) where
+  choice_of : (e e' e'' : Sql) (k : Kind) (r q p : Bool) (o o' o'' : Outcome) → Agree KBool r o (value d e)
+      → Agree k q o' (value d e') → Agree k p o'' (value d e'')
+      → IsRight d (if_outcome o o' o'') (term (sql_case e e' e'') k (r && (q && p)))
+  choice_of e e' e'' k r q p o o' o'' a b c =
+      from_three if_outcome case_cell KBool k k k r q p (r && (q && p)) (if_answer k r q p)
+      o o' o'' (value d e) (value d e') (value d e'') a b c
+
+  choice_at : (e e' e'' : Sql) (k l m : Kind) (r q p : Bool) (o o' o'' : Outcome) → Agree k r o (value d e)
+      → Agree l q o' (value d e') → Agree m p o'' (value d e'')
+      → OnTerm (IsRight d (if_outcome o o' o'')) (choice (term e k r) (term e' l q) (term e'' m p))
+  choice_at e e' e'' KBool KBool KBool r q p o o' o'' a b c = choice_of e e' e'' KBool r q p o o' o'' a b c
+  choice_at e e' e'' KBool KLong KLong r q p o o' o'' a b c = choice_of e e' e'' KLong r q p o o' o'' a b c
+  choice_at e e' e'' KBool KText KText r q p o o' o'' a b c = choice_of e e' e'' KText r q p o o' o'' a b c
+  choice_at e e' e'' k l m r q p o o' o'' a b c = tt
+
+  pub if_right : (x y z : Option Term) (o o' o'' : Outcome) → OnTerm (IsRight d o) x → OnTerm (IsRight d o') y
+      → OnTerm (IsRight d o'') z → OnTerm (IsRight d (if_outcome o o' o'')) (if_term x y z)
+  if_right (Some t) (Some a) (Some b) o o' o'' h k l =
+      choice_at t.sql a.sql b.sql t.kind a.kind b.kind t.is_total a.is_total b.is_total o o' o'' h k l
+  if_right (Some t) (Some a) None o o' o'' h k l = tt
+  if_right (Some t) None z o o' o'' h k l = tt
+  if_right None y z o o' o'' h k l = tt
 
 -- ---- `!`
 

@@ -75,6 +75,19 @@ from_two f g k l m r q s h o o' c c' a b =
     let z = h a.0 b.0 in
     (z.0, ap_both f a.1 b.1 ∙ z.1, ap_both g a.2 b.2 ∙ z.2)
 
+pub from_three : (f : Outcome → Outcome → Outcome → Outcome) (g : Cell → Cell → Cell → Cell) (k l m n : Kind) (r q p s : Bool)
+    → ((x : Answer k r) (y : Answer l q) (z : Answer m p)
+    → Agree n s (f (outcome_of k r x) (outcome_of l q y) (outcome_of m p z)) (g (cell_of k r x) (cell_of l q y) (cell_of m p z)))
+    → (o o' o'' : Outcome) (c c' c'' : Cell) → Agree k r o c → Agree l q o' c' → Agree m p o'' c'' → Agree n s (f o o' o'') (g c c' c'')
+from_three f g k l m n r q p s h o o' o'' c c' c'' a b e =
+    let z = h a.0 b.0 e.0 in
+    (z.0, (λ i. f (a.1 i) (b.1 i) (e.1 i)) ∙ z.1, (λ i. g (a.2 i) (b.2 i) (e.2 i)) ∙ z.2)
+
+-- a part that is total may be taken for one that is not
+pub loose : (k : Kind) (r : Bool) (o : Outcome) (c : Cell) → Agree k r o c → Agree k false o c
+loose k r o c (there v, p, q) = (there v, p, q)
+loose k r o c (gone f e, p, q) = (gone f refl, p, q)
+
 -- ---- cells that hold a value
 
 pub not_null_held : (k : Kind) (v : Held k) → not_null_cell (cell_held k v) ≡ Truth true

@@ -11,11 +11,10 @@ use Rattle.cedar_types.specs.Environments.RequestEnvs.{Env, Declared, Undeclared
 use Rattle.cedar_types.specs.Names.{Text, Path, Uid, path_eq}
 use Rattle.cedar_types.specs.Schemas.{Schema}
 use Rattle.cedar_types.specs.Types.{Ty, TNever, TBool, TLong, TString, TSet, TAnySet, TRecord, TEntity, TAnyEntity, TExtension, sole}
-use Rattle.cedar_types.specs.Types.Lookups.{attribute_type}
 use Rattle.cedar_typing.specs.TypedExpr.{Mark, TypedTree}
-use Rattle.cedar_where.specs.Routes.{Route, next_route, route}
+use Rattle.cedar_where.specs.Routes.{Route, sql_at, is_plain, follow, behind, route}
 use Rattle.cedar_where.specs.Scopes.{Scope, scope_at}
-use Rattle.cedar_where.specs.Sql.{Sql, sql_null, sql_truth, sql_number, sql_text, sql_column, sql_own_id, sql_principal, sql_parameter, sql_not}
+use Rattle.cedar_where.specs.Sql.{Sql, sql_null, sql_truth, sql_number, sql_text, sql_own_id, sql_principal, sql_not}
 use Rattle.cedar_where.specs.Sql.{sql_and, sql_or, sql_case, sql_equal, sql_less, sql_less_equal, sql_is_not_null, sql_matches, sql_is_among, sql_is_in, sql_is_in_any}
 
 -- the kind of a part's value, if it has one. SQL has only the id of an entity, so the kind has its type
@@ -48,6 +47,10 @@ abbrev pub is_text : Kind → Bool
 is_text KText = true
 is_text k = false
 
+abbrev pub is_entity : Kind → Bool
+is_entity (KEntity p) = true
+is_entity k = false
+
 -- entities are compared by their ids, so only those of one type may be
 abbrev pub same_kind : Kind → Kind → Bool
 same_kind KBool KBool = true
@@ -55,10 +58,6 @@ same_kind KLong KLong = true
 same_kind KText KText = true
 same_kind (KEntity p) (KEntity q) = path_eq p q
 same_kind k l = false
-
--- a text has neither NUL nor a backslash
-abbrev pub is_plain : Text → Bool
-is_plain t = not (list_any (λ b. nat_eq b 0) t) && not (list_any (λ b. nat_eq b 92) t)
 
 -- the replacement character, and the two that SQLite's GLOB reads as it
 abbrev pub is_replaced : ℕ → Bool
@@ -86,7 +85,7 @@ variable_term s Var.Action = entity_term s.action
 variable_term s Var.Resource = Some (term sql_own_id (KEntity s.resource) true)
 variable_term s Var.Context = None
 
--- ---- columns
+-- ---- kinds of types
 
 abbrev pub entity_kind : Option Path → Option Kind
 entity_kind None = None
@@ -105,45 +104,48 @@ column_kind (TEntity ps) = entity_kind (sole ps)
 column_kind TAnyEntity = None
 column_kind (TExtension n) = None
 
-abbrev pub column_of_kind : Text → Bool → Option Kind → Option Term
-column_of_kind x r None = None
-column_of_kind x r (Some k) = if is_plain x then Some (term (sql_column x) k r) else None
+-- ---- paths of attributes
 
--- an attribute by its type and by whether it is required, if it is declared
-abbrev pub column_term : Text → Option (Ty × Bool) → Option Term
-column_term x None = None
-column_term x (Some a) = column_of_kind x a.1 (column_kind a.0)
+abbrev pub value_of_kind : Route → Option Kind → Option Term
+value_of_kind r None = None
+value_of_kind r (Some k) = Some (term (sql_at r.origin r.path) k r.is_total)
 
--- ---- parameters
+-- the value at the end of a path, if a column or a parameter holds it
+abbrev pub value_at : Option Route → Option Term
+value_at None = None
+value_at (Some r) = value_of_kind r (column_kind r.end)
 
-abbrev pub parameter_of_kind : Route → Option Kind → Option Term
-parameter_of_kind r None = None
-parameter_of_kind r (Some k) = Some (term (sql_parameter r.variable r.path) k r.is_total)
-
--- the value at the end of a path, if a parameter holds it
-abbrev pub parameter_term : Option Route → Option Term
-parameter_term None = None
-parameter_term (Some r) = parameter_of_kind r (column_kind r.end)
-
--- ---- attributes
-
--- an attribute of the resource, or one at the end of a path
 abbrev pub attribute_term : Scope → TypedTree → Text → Option Term
-attribute_term s (var m Var.Resource) x = column_term x (attribute_type s.schema s.resource_type x)
-attribute_term s e x = parameter_term (next_route s.schema x (route s e))
+attribute_term s a x = value_at (behind s a x (route s a))
+
+-- ---- `has`
 
 abbrev pub has_value : Option Term → Option Term
 has_value None = None
 has_value (Some a) = Some (term (sql_is_not_null a.sql) KBool true)
 
--- NULL tells that the attribute is missing only if a value is always there before it
+-- NULL if there is no value before the attributes, and else whether there is one behind them
+abbrev pub has_guarded : Option Term → Option Term → Option Term
+has_guarded None y = None
+has_guarded (Some a) None = None
+has_guarded (Some a) (Some b) = Some (term (sql_case (sql_is_not_null a.sql) (sql_is_not_null b.sql) sql_null) KBool false)
+
+-- the test of a value at the end of a longer path
 abbrev pub has_behind : Option Route → Option Term → Option Term
 has_behind None y = None
-has_behind (Some r) y = if r.is_total then has_value y else None
+has_behind (Some r) y = if r.is_total then has_value y else has_guarded (value_at (Some r)) y
 
-abbrev pub has_term : Scope → TypedTree → Text → Option Term
-has_term s (var m Var.Resource) x = has_value (attribute_term s (var m Var.Resource) x)
-has_term s e x = has_behind (route s e) (attribute_term s e x)
+-- the value behind a part, at the end of one attribute or of several
+abbrev pub value_behind : Scope → TypedTree → Text → List Text → Option Term
+value_behind s a x xs = value_at (follow s.schema xs (behind s a x (route s a)))
+
+-- an entity that is not stored has no attribute, and a path that ends early has no value at its end
+abbrev pub has_at : TypedTree → Option Route → Option Term → Option Term
+has_at (var m Var.Resource) r y = has_value y
+has_at e r y = has_behind r y
+
+abbrev pub has_term : Scope → TypedTree → Text → List Text → Option Term
+has_term s a x xs = has_at a (route s a) (value_behind s a x xs)
 
 -- ---- operators
 
@@ -172,6 +174,19 @@ abbrev pub or_term : Option Term → Option Term → Option Term
 or_term (Some a) (Some b) = disjunction a b
 or_term (Some a) None = None
 or_term None y = None
+
+-- `if` is a case, if its branches are of one kind. Entities are left out, because a test of `in` writes an id more than once
+abbrev pub choice : Term → Term → Term → Option Term
+choice t a b =
+    if is_bool t.kind && (not (is_entity a.kind) && same_kind a.kind b.kind) then
+    Some (term (sql_case t.sql a.sql b.sql) a.kind (t.is_total && (a.is_total && b.is_total)))
+    else None
+
+abbrev pub if_term : Option Term → Option Term → Option Term → Option Term
+if_term (Some t) (Some a) (Some b) = choice t a b
+if_term (Some t) (Some a) None = None
+if_term (Some t) None z = None
+if_term None y z = None
 
 abbrev pub not_term : Option Term → Option Term
 not_term None = None
@@ -330,15 +345,15 @@ compiled s (lit m (entity u)) = entity_term u
 compiled s (var m x) = variable_term s x
 compiled s (slot m x) = None
 compiled s (unknown m n) = None
-compiled s (if_then_else m a b c) = None
+compiled s (if_then_else m a b c) = if_term (compiled s a) (compiled s b) (compiled s c)
 compiled s (and m a b) = and_term (compiled s a) (compiled s b)
 compiled s (or m a b) = or_term (compiled s a) (compiled s b)
 compiled s (unary m o a) = unary_term o (compiled s a)
 compiled s (binary m o a b) = operator_term o a b (compiled s a) (compiled s b)
 compiled s (call m n ts) = None
 compiled s (get_attr m a x) = attribute_term s a x
-compiled s (has_attr m a x) = has_term s a x
-compiled s (ext_has_attr m a x xs) = None
+compiled s (has_attr m a x) = has_term s a x []
+compiled s (ext_has_attr m a x xs) = has_term s a x xs
 compiled s (like m a p) = like_term (compiled s a) p
 compiled s (is_type m a p) = is_term (compiled s a) p
 compiled s (set_of m ts) = None

@@ -7,4 +7,5 @@ pub mod Compiled
 pub mod Views
 pub mod Sets
 pub mod Tables
+pub mod Reads
 pub mod NullExamples

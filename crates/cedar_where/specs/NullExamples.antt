@@ -1,11 +1,11 @@
 -- Examples of NULL in each operator, on which a clause rests.
-use Rattle.std.specs.Prelude.{◌≡◌, pos, true, false, [], ◌∷◌}
-use Rattle.cedar_types.specs.Names.{Path, Uid}
-use Rattle.cedar_where.specs.Sql.{Null, Truth, Data, sql_null, sql_truth, sql_number, sql_not, sql_and, sql_or, sql_case}
+use Rattle.std.specs.Prelude.{◌≡◌, pos, true, false, List, [], ◌∷◌}
+use Rattle.cedar_types.specs.Names.{Text, Path, Uid}
+use Rattle.cedar_where.specs.Sql.{Null, Truth, Data, sql_null, sql_truth, sql_number, sql_attribute, sql_not, sql_and, sql_or, sql_case}
 use Rattle.cedar_where.specs.Sql.{sql_equal, sql_less, sql_less_equal, sql_is_not_null, sql_is_true, sql_matches, sql_is_among, sql_is_in, sql_is_in_any}
 use Rattle.cedar_where.specs.Sql.{sql_own_id, value}
 
-pub record NullExamples (d : Data) (p : Path) (u : Uid) : Type 0 where
+pub record NullExamples (d : Data) (p : Path) (u : Uid) (xs : List Text) : Type 0 where
   pub negated : value d (sql_not sql_null) ≡ Null
   -- AND is FALSE beside FALSE, and OR is TRUE beside TRUE, on both sides: Cedar fails if the left side does
   pub and_true : value d (sql_and sql_null (sql_truth true)) ≡ Null
@@ -31,6 +31,8 @@ pub record NullExamples (d : Data) (p : Path) (u : Uid) : Type 0 where
   pub in_null : value d (sql_is_in p sql_own_id p sql_null) ≡ Null
   pub null_in : value d (sql_is_in p sql_null p sql_own_id) ≡ Null
   pub null_in_any : value d (sql_is_in_any p sql_null (u ∷ [])) ≡ Null
+  -- no row has the id NULL
+  pub of_null : value d (sql_attribute p sql_null xs) ≡ Null
   -- two tests are never NULL
   pub is_not_null : value d (sql_is_not_null sql_null) ≡ Truth false
   pub is_true : value d (sql_is_true sql_null) ≡ Truth false

@@ -19,8 +19,10 @@ pub data Cell : Type 0 where
 
 -- the data on which a query is run
 pub record Data : Type 0 where
-  -- the row's cells, by the names of the attributes
-  pub cells : Text → Cell
+  -- the row's cells, by the paths of attributes: a record's attributes have columns of their own
+  pub cells : List Text → Cell
+  -- the cells in the table of an entity's type, by the entity and a path; NULL if the table has no row of the entity
+  pub stored : Uid → List Text → Cell
   -- the row's own id
   pub eid : Text
   -- the parameters: the principal's id, and what stands at the end of a path from a variable of the request
@@ -34,11 +36,13 @@ pub data Sql : Type 0 where
   sql_truth : Bool → Sql
   sql_number : ℤ → Sql
   sql_text : Text → Sql
-  -- the column of an attribute, the column of the row's own id, the parameter of the principal's id, another parameter
-  sql_column : Text → Sql
+  -- the column at a path, the column of the row's own id, the parameter of the principal's id, another parameter
+  sql_column : List Text → Sql
   sql_own_id : Sql
   sql_principal : Sql
   sql_parameter : Var → List Text → Sql
+  -- the column at a path in the row of the entity of a type and an id: `(SELECT .. FROM .. WHERE "eid" = a)`
+  sql_attribute : Path → Sql → List Text → Sql
   -- `NOT a`, `a AND b`, `a OR b`
   sql_not : Sql → Sql
   sql_and : Sql → Sql → Sql
@@ -170,6 +174,12 @@ id_cell test Null = Null
 id_cell test (Words s) = Truth (test s)
 id_cell test c = Undefined
 
+-- the cell in the row that an id names; NULL if the id is
+abbrev pub found_cell : (Text → Cell) → Cell → Cell
+found_cell at Null = Null
+found_cell at (Words s) = at s
+found_cell at c = Undefined
+
 -- ---- the value of an expression
 
 abbrev pub uid : Path → Text → Uid
@@ -192,10 +202,11 @@ value d sql_null = Null
 value d (sql_truth b) = Truth b
 value d (sql_number n) = Integer n
 value d (sql_text t) = Words t
-value d (sql_column x) = d.cells x
+value d (sql_column xs) = d.cells xs
 value d sql_own_id = Words d.eid
 value d sql_principal = Words d.principal
 value d (sql_parameter v xs) = d.parameters v xs
+value d (sql_attribute p a xs) = found_cell (λ t. d.stored (uid p t) xs) (value d a)
 value d (sql_not a) = not_cell (value d a)
 value d (sql_and a b) = and_cells (value d a) (value d b)
 value d (sql_or a b) = or_cells (value d a) (value d b)

@@ -4,6 +4,8 @@ use Rattle.cedar_types.specs.Names.{text_of, type_of, uid_of}
 use Rattle.cedar_types.specs.Schemas.Contents.{schema_of}
 use Rattle.cedar_types.specs.Types.{ty_of}
 use Rattle.cedar_where.specs.declared.refusals.Refusal.{Refusal}
+use Rattle.cedar_where.specs.declared.routes.Origin.{Origin}
+use Rattle.cedar_where.specs.declared.routes.Origin.TheVariants as origin
 use Rattle.cedar_where.specs.declared.routes.Route.{Route}
 use Rattle.cedar_where.specs.declared.scopes.Scope.{Scope}
 use Rattle.cedar_where.specs.declared.sql.SqlExpr.{SqlExpr, fold-SqlExpr}
@@ -16,7 +18,7 @@ use Rattle.cedar_where.specs.Compiled as plain
 use Rattle.cedar_where.specs.Routes as routes
 use Rattle.cedar_where.specs.Scopes as scopes
 use Rattle.cedar_where.specs.Compiled.{KBool, KLong, KText, KEntity}
-use Rattle.cedar_where.specs.Sql.{Sql, sql_null, sql_truth, sql_number, sql_text, sql_column, sql_own_id, sql_principal, sql_parameter, sql_not}
+use Rattle.cedar_where.specs.Sql.{Sql, sql_null, sql_truth, sql_number, sql_text, sql_column, sql_own_id, sql_principal, sql_parameter, sql_attribute, sql_not}
 use Rattle.cedar_where.specs.Sql.{sql_and, sql_or, sql_case, sql_equal, sql_less, sql_less_equal, sql_is_not_null, sql_is_true}
 use Rattle.cedar_where.specs.Sql.{sql_matches, sql_is_among, sql_is_in, sql_is_in_any}
 
@@ -26,10 +28,11 @@ sql_step layer.Null = sql_null
 sql_step (layer.Truth b) = sql_truth b
 sql_step (layer.Number n) = sql_number n
 sql_step (layer.Text t) = sql_text (text_of t)
-sql_step (layer.Column x) = sql_column (text_of x)
+sql_step (layer.Column xs) = sql_column (map text_of xs.items)
 sql_step layer.OwnId = sql_own_id
 sql_step layer.Principal = sql_principal
 sql_step (layer.Parameter v xs) = sql_parameter v (map text_of xs.items)
+sql_step (layer.Attribute p a xs) = sql_attribute (type_of p) a.value (map text_of xs.items)
 sql_step (layer.Not a) = sql_not a.value
 sql_step (layer.And a b) = sql_and a.value b.value
 sql_step (layer.Or a b) = sql_or a.value b.value
@@ -83,9 +86,14 @@ abbrev pub clause_in : Result SqlExpr Refusal → Option Sql
 clause_in (Ok e) = Some (sql_of e)
 clause_in (Err r) = None
 
+abbrev pub origin_of : Origin → routes.Origin
+origin_of (origin.Variable v) = routes.FromVariable v
+origin_of origin.Row = routes.FromRow
+origin_of (origin.Entity p a) = routes.FromEntity (type_of p) (sql_of a.value)
+
 abbrev pub route_of : Route → routes.Route
 route_of r = record {
-  variable = r.variable;
+  origin = origin_of r.origin;
   path = map text_of r.path.items;
   end = ty_of r.end;
   is_total = r.is_total;

@@ -5,7 +5,7 @@ ghost use Rattle.cedar_where.specs.Compiled.{compiled};
 ghost use Rattle.cedar_where.specs.Views.{scope_of, term_in};
 
 use crate::columns::{attribute_term, has_term};
-use crate::connectives::{and_term, or_term};
+use crate::connectives::{and_term, if_term, or_term};
 use crate::leaves::{entity_term, text_term, variable_term};
 use crate::operators::{operator_term, unary_term};
 use crate::refusals::Reason;
@@ -28,7 +28,17 @@ pub(crate) fn compile(alloc: Global, scope: &Scope<'_>, e: &Typed) -> Result<Com
         ExprKind::Var(variable) => variable_term(alloc, scope, e.loc, *variable),
         ExprKind::Slot(_) => refused(e.loc, Reason::Slot),
         ExprKind::Unknown(_) => refused(e.loc, Reason::Unknown),
-        ExprKind::If { .. } => refused(e.loc, Reason::Conditional),
+        ExprKind::If {
+            test_expr,
+            then_expr,
+            else_expr,
+        } => if_term(
+            alloc,
+            e.loc,
+            compile(alloc, scope, test_expr)?,
+            compile(alloc, scope, then_expr)?,
+            compile(alloc, scope, else_expr)?,
+        ),
         ExprKind::And(left, right) => and_term(
             alloc,
             e.loc,
@@ -50,8 +60,15 @@ pub(crate) fn compile(alloc: Global, scope: &Scope<'_>, e: &Typed) -> Result<Com
         }
         ExprKind::ExtensionFunctionApp(_, _) => refused(e.loc, Reason::ExtensionFunction),
         ExprKind::GetAttr(base, name) => attribute_term(alloc, scope, e.loc, base, name),
-        ExprKind::HasAttr(base, name) => has_term(alloc, scope, e.loc, base, name),
-        ExprKind::ExtHasAttr(_, _) => refused(e.loc, Reason::NotOfResource),
+        ExprKind::HasAttr(base, name) => has_term(alloc, scope, e.loc, base, name, &[]),
+        ExprKind::ExtHasAttr(base, names) => has_term(
+            alloc,
+            scope,
+            e.loc,
+            base,
+            &names.first,
+            &names.rest,
+        ),
         ExprKind::Like(operand, pattern) => {
             like_term(alloc, e.loc, compile(alloc, scope, operand)?, pattern)
         }

@@ -1,6 +1,6 @@
-// Connectives of compiled parts: `&&`, `||` and `!`.
+// Connectives of compiled parts: `&&`, `||`, `!` and `if`.
 ghost use Rattle.std.specs.Prelude.{◌≡◌, IfOk};
-ghost use Rattle.cedar_where.specs.Compiled.{and_term, or_term, not_term, conjunction, disjunction};
+ghost use Rattle.cedar_where.specs.Compiled.{and_term, or_term, not_term, if_term, choice, conjunction, disjunction};
 ghost use Rattle.cedar_where.specs.Views.{term_of, term_in};
 
 use crate::refusals::Reason;
@@ -101,6 +101,55 @@ fn disjunction(
         otherwise: right.sql,
     };
     made(alloc, sql, Kind::Bool, is_total)
+}
+
+/// `if a then b else c`: a case, if the branches are of one kind.
+pub(crate) fn if_term(
+    alloc: Global,
+    loc: Option<Loc>,
+    test: Compiled,
+    then: Compiled,
+    otherwise: Compiled,
+) -> Result<Compiled, AllocError>
+    ensures { IfOk result (λ t.
+        if_term (term_in test) (term_in then) (term_in otherwise) ≡ term_in t) }
+{
+    match test {
+        Err(refusal) => Ok(Err(refusal)),
+        Ok(test) => match then {
+            Err(refusal) => Ok(Err(refusal)),
+            Ok(then) => match otherwise {
+                Err(refusal) => Ok(Err(refusal)),
+                Ok(otherwise) => choice(alloc, loc, test, then, otherwise),
+            },
+        },
+    }
+}
+
+fn choice(
+    alloc: Global,
+    loc: Option<Loc>,
+    test: Term,
+    then: Term,
+    otherwise: Term,
+) -> Result<Compiled, AllocError>
+    ensures { IfOk result (λ t. choice (term_of test) (term_of then) (term_of otherwise) ≡ term_in t) }
+{
+    if !(test.kind.is_bool() && (!then.kind.is_entity() && then.kind.is_same(&otherwise.kind))) {
+        return refused(loc, Reason::Conditional);
+    }
+    let is_total = test.is_total && (then.is_total && otherwise.is_total);
+    let Term {
+        sql: then_sql,
+        kind,
+        is_total: _then_is_total,
+    } = then;
+    let sql = SqlExpr::Case {
+        test: test.sql,
+        then: then_sql,
+        otherwise: otherwise.sql,
+    };
+    made(alloc, sql, kind, is_total)
 }
 
 /// `!a`.

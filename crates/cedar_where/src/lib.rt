@@ -16,6 +16,7 @@ mod membership;
 mod operators;
 mod plain;
 mod quotes;
+mod reads;
 mod refusals;
 mod routes;
 mod scopes;

@@ -1,8 +1,8 @@
 // Texts that may stand in SQL.
 ghost use Rattle.std.specs.Prelude.{◌≡◌, not};
 ghost use Rattle.std.specs.List.{list_all};
-ghost use Rattle.cedar_where.specs.Compiled.{is_plain, is_plain_elem, is_plain_pattern, is_replaced};
-ghost use Rattle.cedar_where.specs.Routes.{is_word, is_word_byte};
+ghost use Rattle.cedar_where.specs.Compiled.{is_plain_elem, is_plain_pattern, is_replaced};
+ghost use Rattle.cedar_where.specs.Routes.{is_plain, is_word, is_word_byte};
 
 use cedar_types::base::PatternElem;
 

@@ -6,6 +6,10 @@ use std::rc::RcStr;
 /// The name of the table of ancestors. It has a blank, because no entity type does.
 pub(crate) const ANCESTORS: &str = "entity ancestors";
 
+/// The name for the row of an entity behind the resource, in the query for it: a column of the resource's own table keeps its
+/// name there, also if the two tables are one. It has a blank, because no entity type does.
+const OTHER: &str = "other entity";
+
 /// Writes a text in these marks. A mark within it is doubled.
 pub(crate) fn write_quoted<W: fmt::Write>(
     f: &mut fmt::Formatter<W>,
@@ -13,13 +17,19 @@ pub(crate) fn write_quoted<W: fmt::Write>(
     text: &str,
 ) -> fmt::Result {
     write!(f, "{mark}")?;
+    write_doubled(f, mark, text)?;
+    write!(f, "{mark}")
+}
+
+/// Writes a text, and each mark within it twice.
+fn write_doubled<W: fmt::Write>(f: &mut fmt::Formatter<W>, mark: char, text: &str) -> fmt::Result {
     for c in text.chars() {
         if c == mark {
             write!(f, "{mark}")?;
         }
         write!(f, "{c}")?;
     }
-    write!(f, "{mark}")
+    Ok(())
 }
 
 /// Writes a column with its table, because SQLite takes a quoted name that the table lacks for a text.
@@ -31,6 +41,36 @@ pub(crate) fn write_column<W: fmt::Write>(
     write_quoted(f, '"', table)?;
     write!(f, ".")?;
     write_quoted(f, '"', column)
+}
+
+/// Writes the column at the end of a path, with its table. Its name has points between the attributes.
+pub(crate) fn write_path<W: fmt::Write>(
+    f: &mut fmt::Formatter<W>,
+    table: &str,
+    path: &[RcStr],
+) -> fmt::Result {
+    write_quoted(f, '"', table)?;
+    let mut mark = ".\"";
+    for attribute in path {
+        write!(f, "{mark}")?;
+        write_doubled(f, '"', attribute)?;
+        mark = ".";
+    }
+    write!(f, "\"")
+}
+
+/// Writes the beginning of the query of a column in an entity's row, up to the entity's id.
+pub(crate) fn write_entity_query<W: fmt::Write>(
+    f: &mut fmt::Formatter<W>,
+    entity_type: &EntityType,
+    path: &[RcStr],
+) -> fmt::Result {
+    write!(f, "(SELECT ")?;
+    write_path(f, OTHER, path)?;
+    write!(
+        f,
+        " FROM \"{entity_type}\" AS \"{OTHER}\" WHERE \"{OTHER}\".\"eid\" = "
+    )
 }
 
 /// Writes the parameter of a path: the variable, and each attribute behind `$`, which no name of a parameter's attribute has.

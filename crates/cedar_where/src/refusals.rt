@@ -21,7 +21,8 @@ pub enum Reason {
     Slot,
     /// An unknown has no value.
     Unknown,
-    /// `if`: its clause could be exponentially long.
+    /// `if` of entities: a test of `in` writes an id more than once, so its clause could be exponentially
+    /// long.
     Conditional,
     /// Sums, differences and products fail in Cedar in cases in which SQL's do not.
     Arithmetic,
@@ -33,13 +34,11 @@ pub enum Reason {
     Tag,
     /// No function of SQL is an extension function.
     ExtensionFunction,
-    /// Only attributes of the resource itself are in its row, and a request gives only those behind the
-    /// principal and the context.
-    NotOfResource,
-    /// No parameter holds a set, a record, a value of an extension type or an entity of several types. None
-    /// tells whether an attribute is there behind a value that may be missing.
-    NoParameter,
-    /// No column of the table has the attribute.
+    /// The part is no path of attributes that the schema declares, from a variable or an entity, or a name
+    /// in it cannot stand in the name of a column or of a parameter.
+    NoPath,
+    /// No column and no parameter holds a set, a record, a value of an extension type or an entity of
+    /// several types.
     NoColumn,
     /// A text, an id or a name with NUL, which no driver takes, or with a backslash, which begins an
     /// escape in some dialects.
@@ -70,15 +69,17 @@ impl fmt::Display for Reason {
             Reason::Context => write!(f, "a row has no context"),
             Reason::Slot => write!(f, "a slot is bound by a link alone"),
             Reason::Unknown => write!(f, "an unknown has no value"),
-            Reason::Conditional => write!(f, "`if` has no clause"),
+            Reason::Conditional => write!(
+                f,
+                "`if` has a clause only of truth values, numbers or texts"
+            ),
             Reason::Arithmetic => write!(f, "SQL's arithmetic does not fail as Cedar's does"),
             Reason::Set => write!(f, "a set has no clause"),
             Reason::Record => write!(f, "a record has no clause"),
             Reason::Tag => write!(f, "no column has a tag"),
             Reason::ExtensionFunction => write!(f, "an extension function has no clause"),
-            Reason::NotOfResource => write!(f, "only attributes of the resource are in its row"),
-            Reason::NoParameter => write!(f, "no parameter has this value"),
-            Reason::NoColumn => write!(f, "no column has this attribute"),
+            Reason::NoPath => write!(f, "no path of declared attributes leads here"),
+            Reason::NoColumn => write!(f, "no column and no parameter has this value"),
             Reason::Text => write!(f, "a text with NUL or a backslash has no clause"),
             Reason::Pattern => write!(
                 f,

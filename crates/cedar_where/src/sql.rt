@@ -14,8 +14,9 @@ pub enum SqlExpr {
     Number(i64),
     /// A text.
     Text(RcStr),
-    /// The column that holds the attribute of this name.
-    Column(RcStr),
+    /// The column that holds the value at the end of a path of attributes from the resource: an attribute of a record behind
+    /// the record's own name.
+    Column(Vec<RcStr>),
     /// The column that holds the resource's own id.
     OwnId,
     /// The parameter that holds the principal's id.
@@ -24,6 +25,12 @@ pub enum SqlExpr {
     /// request, and NULL if there is none.
     Parameter {
         variable: Var,
+        path: Vec<RcStr>,
+    },
+    /// The column at the end of a path, in the row of the entity of this type with this id, and NULL if there is none.
+    Attribute {
+        entity_type: EntityType,
+        eid: Box<SqlExpr>,
         path: Vec<RcStr>,
     },
     /// `NOT a`.
@@ -81,6 +88,11 @@ impl Drop for SqlExpr {
             SqlExpr::Principal => {}
             SqlExpr::Parameter {
                 variable: _,
+                path: _,
+            } => {}
+            SqlExpr::Attribute {
+                entity_type: _,
+                eid: _,
                 path: _,
             } => {}
             SqlExpr::Not(_) => {}

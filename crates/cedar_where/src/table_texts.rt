@@ -18,7 +18,7 @@ impl fmt::Display for Table {
 
 impl fmt::Display for Column {
     fn fmt<W: fmt::Write>(&self, f: &mut fmt::Formatter<W>) -> fmt::Result {
-        let name = self.attribute.as_str();
+        let name = self.name.as_str();
         write_quoted(f, '"', name)?;
         match self.column_type {
             ColumnType::Bool | ColumnType::Long => write!(f, " INTEGER")?,

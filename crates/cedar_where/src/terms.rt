@@ -1,7 +1,7 @@
 // Compiled parts of a condition.
 ghost use Rattle.std.specs.Prelude.{◌≡◌, Some, None, IfOk};
 ghost use Rattle.cedar_types.specs.Names.{path_eq, type_of};
-ghost use Rattle.cedar_where.specs.Compiled.{is_bool, is_long, is_text, same_kind};
+ghost use Rattle.cedar_where.specs.Compiled.{is_bool, is_entity, is_long, is_text, same_kind};
 ghost use Rattle.cedar_where.specs.Views.{sql_of, kind_of, term_of, term_in};
 
 use crate::refusals::{Reason, Refusal};
@@ -83,6 +83,15 @@ impl Kind {
         match self {
             Kind::Text => true,
             Kind::Bool | Kind::Long | Kind::Entity(_) => false,
+        }
+    }
+
+    pub(crate) fn is_entity(&self) -> bool
+        ensures { result ≡ is_entity (kind_of self.now) }
+    {
+        match self {
+            Kind::Entity(_) => true,
+            Kind::Bool | Kind::Long | Kind::Text => false,
         }
     }
 

@@ -3,8 +3,8 @@
 // A truth value is 1 or 0, because SQLite takes the words TRUE and FALSE for columns of these names.
 use crate::chains::{Chain, Kept, Place, Turn};
 use crate::quotes::{
-    write_ancestor, write_ancestor_among, write_ancestor_query, write_column, write_ids_of_type,
-    write_parameter, write_pattern, write_quoted, write_texts,
+    write_ancestor, write_ancestor_among, write_ancestor_query, write_column, write_entity_query,
+    write_ids_of_type, write_parameter, write_path, write_pattern, write_quoted, write_texts,
 };
 use crate::sql::SqlExpr;
 use crate::tables::{ID_COLUMN, Table};
@@ -128,6 +128,15 @@ fn write_expr<W: fmt::Write>(
             write_expr(f, table, &mut branch, otherwise)?;
             write!(f, " END")?;
         }
+        SqlExpr::Attribute {
+            entity_type,
+            eid,
+            path,
+        } => {
+            write_entity_query(f, entity_type, path)?;
+            write_expr(f, table, &mut parts, eid)?;
+            write!(f, ")")?;
+        }
         SqlExpr::Matches(a, pattern) => {
             write_expr(f, table, &mut parts, a)?;
             write_pattern(f, pattern)?;
@@ -179,7 +188,7 @@ fn write_leaf<W: fmt::Write>(f: &mut fmt::Formatter<W>, table: &str, e: &SqlExpr
         SqlExpr::Truth(false) => write!(f, "0"),
         SqlExpr::Number(n) => write!(f, "{n}"),
         SqlExpr::Text(text) => write_quoted(f, '\'', text),
-        SqlExpr::Column(name) => write_column(f, table, name),
+        SqlExpr::Column(path) => write_path(f, table, path),
         SqlExpr::OwnId => write_column(f, table, ID_COLUMN),
         SqlExpr::Principal => write!(f, ":principal"),
         SqlExpr::Parameter { variable, path } => write_parameter(f, *variable, path),
