@@ -11,13 +11,14 @@ import subprocess
 import sys
 from pathlib import Path
 
-from docs import api_pages, commands, files as listings, laws, limits, pictures, pieces, promise, prose, questions, rows, rules, trusted
+from docs import api_pages, commands, files as listings, header, laws, limits, pictures, pieces, promise, prose, questions, rows, rules, trusted
 from docs.definitions import Gone
 
 TOP = Path(__file__).resolve().parent.parent
 MAKERS = {
     "rows": rows.table,
     "limits": limits.table,
+    "c_calls": header.calls,
     "level_rules": rules.levels,
     "asked": questions.rows,
     "columns": questions.columns,
