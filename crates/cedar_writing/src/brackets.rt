@@ -30,7 +30,7 @@ impl<'t, 'a> Writer<'t, 'a> {
     /// Goes on inside the bracket that the token of number `at` has opened.
     fn bracket(&mut self, span: Span, at: usize, last: usize) -> Result<(), AllocError> {
         let rest = span.behind(last);
-        let tail = if span.to <= rest.from { span.tail } else { 0 };
+        let tail = self.tail_behind(span, last);
         let outer = self.printer.line_indent();
         let whole = Span {
             from: at.saturating_add(1),
@@ -39,7 +39,7 @@ impl<'t, 'a> Writer<'t, 'a> {
             tail,
         };
         let bracket = self.role(at);
-        if bracket == Some(Role::Open(Bracket::Index)) || self.fits_behind(at, whole) {
+        if !self.may_break(at) || self.fits_behind(at, whole) {
             for inner in whole.from..whole.to {
                 self.write_next(inner)?;
             }
@@ -58,17 +58,49 @@ impl<'t, 'a> Writer<'t, 'a> {
         ])
     }
 
+    /// The number of characters that stay in the line of the bracket that ends with the token of
+    /// number `last`: those before the inside of the next bracket, or else all.
+    fn tail_behind(&self, span: Span, last: usize) -> usize {
+        for at in last.saturating_add(1)..span.to {
+            if self.may_break(at) {
+                return self.size(last, at);
+            }
+        }
+        let end = span.to.saturating_sub(1);
+        self.size(last, end).saturating_add(span.tail)
+    }
+
+    /// Whether the token of number `at` opens a bracket with something that may go to a line of its
+    /// own.
+    fn may_break(&self, at: usize) -> bool {
+        let is_empty = self.last_of(at) <= at.saturating_add(1);
+        match self.role(at) {
+            Some(Role::Open(bracket)) => bracket != Bracket::Index && !is_empty,
+            _ => false,
+        }
+    }
+
+    /// The number of characters behind one token up to the end of another, on one line.
+    fn size(&self, before: usize, last: usize) -> usize {
+        match (self.tokens.get(before), self.tokens.get(last)) {
+            (Some(before), Some(last)) => last.end.saturating_sub(before.end),
+            _ => 0,
+        }
+    }
+
     /// Whether these tokens fit into the line behind the token of number `at`.
     fn fits_behind(&self, at: usize, span: Span) -> bool {
-        let before = self.tokens.get(at);
-        let last = self.tokens.get(span.to.saturating_sub(1));
-        match (before, last) {
-            (Some(before), Some(last)) => {
-                let size = last.end.saturating_sub(before.end);
-                before.comments == last.comments
-                    && self.printer.has_room(size.saturating_add(span.tail))
-            }
-            _ => true,
+        let last = span.to.saturating_sub(1);
+        let size = self.size(at, last);
+        self.comments(at) == self.comments(last)
+            && self.printer.has_room(size.saturating_add(span.tail))
+    }
+
+    /// The number of comments before the token of number `at`.
+    fn comments(&self, at: usize) -> usize {
+        match self.tokens.get(at) {
+            Some(token) => token.comments,
+            None => 0,
         }
     }
 

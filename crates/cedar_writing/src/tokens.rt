@@ -2,7 +2,7 @@
 use crate::faults::FormatFault;
 use crate::parentheses::Parentheses;
 use crate::pieces::{Piece, pieces};
-use crate::roles::{Role, is_spaced, role_of};
+use crate::roles::{Bracket, Role, is_spaced, role_of};
 use std::alloc::{AllocError, Global};
 
 /// A token of a text.
@@ -35,17 +35,17 @@ pub struct Tokens<'a> {
 
 /// The tokens of a text that stay, and its comments.
 pub fn tokens_of<'a>(alloc: Global, text: &'a str) -> Result<Tokens<'a>, FormatFault> {
-    let mut all = Vec::new(alloc);
+    let mut tokens = Vec::new(alloc);
     let mut comments = Vec::new(alloc);
     for piece in pieces(alloc, text)? {
         if piece.is_comment() {
             comments.push(piece)?;
         } else {
-            all.push(unplaced(piece, comments.len()))?;
+            tokens.push(unplaced(piece, comments.len()))?;
         }
     }
-    set_roles(alloc, &mut all)?;
-    let tokens = kept(alloc, &all)?;
+    set_roles(alloc, &mut tokens)?;
+    place(alloc, &mut tokens)?;
     Ok(Tokens { tokens, comments })
 }
 
@@ -81,14 +81,17 @@ fn set_roles(alloc: Global, tokens: &mut Vec<Token<'_>>) -> Result<(), AllocErro
     Ok(())
 }
 
-/// The tokens that stay, with their columns and partners.
-fn kept<'a>(alloc: Global, all: &[Token<'a>]) -> Result<Vec<Token<'a>>, AllocError> {
-    let mut tokens = Vec::with_capacity(alloc, all.len())?;
+/// Leaves the tokens that stay, and sets their columns and partners.
+fn place(alloc: Global, tokens: &mut Vec<Token<'_>>) -> Result<(), AllocError> {
     let mut open = Vec::new(alloc);
-    let mut before = Role::Open(crate::roles::Bracket::Group);
+    let mut before = Role::Open(Bracket::Group);
     let mut end = 0usize;
     let mut comments = 0;
-    for token in all {
+    let mut count = 0usize;
+    for at in 0..tokens.len() {
+        let Some(token) = tokens.get(at).copied() else {
+            break;
+        };
         if token.is_left_out {
             continue;
         }
@@ -99,28 +102,30 @@ fn kept<'a>(alloc: Global, all: &[Token<'a>]) -> Result<Vec<Token<'a>>, AllocErr
         if token.role != Role::Comma {
             comments = token.comments;
         }
-        let placed = Token {
-            comments,
-            start,
-            end,
-            is_spaced,
-            ..*token
-        };
         match token.role {
-            Role::Open(_) => open.push(tokens.len())?,
-            Role::Close(_) => join(&mut tokens, open.pop()),
+            Role::Open(_) => open.push(count)?,
+            Role::Close(_) => join(tokens, open.pop(), count),
             _ => {}
         }
-        tokens.push(placed)?;
+        if let Some(place) = tokens.get_mut(count) {
+            *place = Token {
+                comments,
+                start,
+                end,
+                is_spaced,
+                ..token
+            };
+        }
         before = token.role;
+        count = count.saturating_add(1);
     }
-    Ok(tokens)
+    tokens.truncate(count);
+    Ok(())
 }
 
-/// Sets the partner of the bracket that was opened last, which the next token closes.
-fn join(tokens: &mut Vec<Token<'_>>, opened: Option<usize>) {
-    let next = tokens.len();
+/// Sets the partner of the bracket that was opened last, which the token of number `last` closes.
+fn join(tokens: &mut Vec<Token<'_>>, opened: Option<usize>, last: usize) {
     if let Some(token) = opened.and_then(|at| tokens.get_mut(at)) {
-        token.partner = next;
+        token.partner = last;
     }
 }
