@@ -12,7 +12,7 @@ TOP = Path(__file__).resolve().parents[2]
 FOLDERS = ("src", "specs")
 TESTS = "_tests"
 SUBJECTS = {
-    "the three libraries": "cedar_types cedar_typing cedar_typechecker cedar_node_types",
+    "the three libraries": "cedar_types cedar_typing cedar_typechecker cedar_node_types cedar_alike",
     "readers of texts": "cedar_reading cedar_json cedar_extensions",
     "the formatter": "cedar_writing",
     "data": "cedar_conformance cedar_data",

@@ -6,4 +6,5 @@ mod expressions;
 mod follow_ups;
 mod nesting;
 mod parts;
+mod reads;
 mod sequences;

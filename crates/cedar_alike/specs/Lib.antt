@@ -1,0 +1,4 @@
+pub mod Reads
+pub mod Flags
+pub mod TypedOnce
+pub mod Examples
