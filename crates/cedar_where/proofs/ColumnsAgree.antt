@@ -1,9 +1,8 @@
 -- Values of attributes in cells, and tests of them.
-use Rattle.std.proofs.Common.{◌≡◌, Bool, true, false, ◌||◌, not, List, [], ◌∷◌, Option, Some, None, is_some, if◌then◌else◌, refl, sym, ap, subst, ◌∙◌}
-use Rattle.std.specs.Prelude.{IsTrue}
+use Rattle.std.proofs.Common.{◌≡◌, Bool, true, false, List, [], ◌∷◌, Option, Some, None, is_some, refl, ap, ◌∙◌}
 use Rattle.cedar_types.specs.Lemmas.Comparisons.{path_same}
 use Rattle.cedar_types.specs.Names.{Text, Path, path_eq}
-use Rattle.cedar_types.specs.Schemas.{DeclaredType, Schema, TypeKind, StandardKind, EnumKind, ExternalKind, type_named}
+use Rattle.cedar_types.specs.Schemas.{DeclaredType, Schema, TypeKind, StandardKind, EnumKind, ExternalKind}
 use Rattle.cedar_types.specs.Types.{Ty, TNever, TBool, TLong, TString, TSet, TAnySet, TRecord, TEntity, TAnyEntity, TExtension, sole}
 use Rattle.cedar_types.specs.Types.Lookups.{kind_attribute, declared_kind_attribute}
 use Rattle.cedar_types.specs.Values.{Value, VBool, VLong, VString, VEntity, entry_at, HasType}
@@ -13,10 +12,10 @@ use Rattle.cedar_typing.proofs.Basics.{or_cases}
 use Rattle.cedar_typing.proofs.Bounds.Attributes.{AttrAt, found_at}
 use Rattle.cedar_typing.specs.Evaluation.Eval.{attribute_value}
 use Rattle.cedar_typing.specs.Evaluation.World.{Failure, Outcome, Gives, Fails}
-use Rattle.cedar_where.specs.Compiled.{Kind, KBool, KLong, KText, KEntity, Term, entity_kind, column_kind, has_value}
+use Rattle.cedar_where.specs.Compiled.{Kind, KBool, KEntity, Term, entity_kind, column_kind, has_value}
 use Rattle.cedar_where.specs.Rows as rows
-use Rattle.cedar_where.specs.Sql.{Cell, Null, Truth, Data, value, not_null_cell, uid}
-use Rattle.cedar_where.proofs.Parts.{Held, Answer, there, gone, outcome_of, cell_of, Agree, OnTerm, IsRight, not_null_held}
+use Rattle.cedar_where.specs.Sql.{Cell, Null, Data, value, not_null_cell, uid}
+use Rattle.cedar_where.proofs.Parts.{there, gone, Agree, OnTerm, IsRight, not_null_held}
 
 -- ---- an entity's attribute is as its type declares it
 

@@ -1,13 +1,13 @@
 -- Clauses of conditions: each means its condition.
-use Rattle.std.proofs.Common.{◌≡◌, Bool, true, false, ◌↔◌, List, [], ◌∷◌, Option, Some, None, is_some, if◌then◌else◌, refl, sym, ap, subst, ◌∙◌}
+use Rattle.std.proofs.Common.{◌≡◌, Bool, true, ◌↔◌, [], Option, Some, None, if◌then◌else◌, refl, sym, ap, subst}
 use Rattle.cedar_types.specs.declared.base.expressions.operators.Var.{Var}
 use Rattle.cedar_types.specs.Environments.{DeclaredEnv}
 use Rattle.cedar_types.specs.Environments.RequestEnvs.{Env, Declared, Undeclared}
 use Rattle.cedar_types.specs.Expressions.Tree.{bool, long, string, entity, lit, var, slot, unknown, if_then_else, and, or, unary, binary}
 use Rattle.cedar_types.specs.Expressions.Tree.{call, get_attr, has_attr, ext_has_attr, like, is_type, set_of, record_of}
-use Rattle.cedar_types.specs.Names.{Text, Path, Uid}
+use Rattle.cedar_types.specs.Names.{Uid}
 use Rattle.cedar_types.specs.Schemas.{Schema}
-use Rattle.cedar_types.specs.Values.{Value, VBool, VEntity}
+use Rattle.cedar_types.specs.Values.{VBool, VEntity}
 use Rattle.cedar_types.specs.Values.Stores.{ConformingStore}
 use Rattle.cedar_typing.proofs.Basics.{some_is, none_is}
 use Rattle.cedar_typing.specs.Evaluation.Conformance.{FitsRequest}
@@ -15,7 +15,7 @@ use Rattle.cedar_typing.specs.Evaluation.Eval.{eval}
 use Rattle.cedar_typing.specs.Evaluation.World.{World, Outcome, Gives, Fails}
 use Rattle.cedar_typing.specs.Soundness.{IsTrueOutcome}
 use Rattle.cedar_typing.specs.TypedExpr.{Mark, TypedTree}
-use Rattle.cedar_where.specs.Compiled.{Kind, KBool, KLong, KText, KEntity, Term, term, is_bool, text_term, entity_term}
+use Rattle.cedar_where.specs.Compiled.{Kind, KBool, KText, KEntity, Term, term, is_bool, entity_term}
 use Rattle.cedar_where.specs.Compiled.{variable_term, compiled, clause_of, clause_at}
 use Rattle.cedar_where.specs.Meaning.{IsOutcome, MeansTheCondition, ChoosesTheTrue}
 use Rattle.cedar_where.specs.Routes.{is_plain}

@@ -1,5 +1,5 @@
 -- Operators on parts: each is right if its operands are.
-use Rattle.std.proofs.Common.{◌≡◌, Bool, true, false, ◌&&◌, ◌||◌, List, Option, Some, None, ℤ, if◌then◌else◌}
+use Rattle.std.proofs.Common.{◌≡◌, Bool, true, false, ◌&&◌, ◌||◌, List, Option, Some, None, if◌then◌else◌}
 use Rattle.std.proofs.Common.{[], ◌∷◌, refl, sym, ap, subst, ◌∙◌}
 use Rattle.std.specs.List.{list_any}
 use Rattle.std.specs.Ordering.{int_eq}
@@ -23,11 +23,11 @@ use Rattle.cedar_where.specs.Compiled.{Kind, KBool, KLong, KText, KEntity, Term,
 use Rattle.cedar_where.specs.Compiled.{or_term, not_term, choice, if_term, unary_term, difference, equality, less, less_or_equal, in_term}
 use Rattle.cedar_where.specs.Compiled.{plain_entity, entity_literal, and_others, literals, entity_literals, in_any_of, in_any, operator_term}
 use Rattle.cedar_where.specs.Compiled.{plain_text, text_literal, text_literals, among, among_texts, contains_term}
-use Rattle.cedar_where.specs.Compiled.{binary_of_terms, binary_term, like_term, is_plain_pattern, type_test, is_of_kind, is_term}
+use Rattle.cedar_where.specs.Compiled.{binary_of_terms, binary_term, like_term, is_plain_pattern, is_term}
 use Rattle.cedar_where.specs.Routes.{is_plain}
 use Rattle.cedar_where.specs.Sql.{Cell, Null, Truth, Data, Sql, sql_case, sql_equal, sql_matches, value, uid, not_cell, and_cells, or_cells, case_cell, equal_cells}
 use Rattle.cedar_where.specs.Sql.{ordered_cells, not_null_cell, matches_cell, ids_cell, id_cell, is_within, is_id_within, is_id_within_any}
-use Rattle.cedar_where.proofs.Parts.{Held, value_held, cell_held, Answer, there, gone, outcome_of, cell_of, Agree, OnTerm, IsRight}
+use Rattle.cedar_where.proofs.Parts.{Held, value_held, Answer, there, gone, outcome_of, cell_of, Agree, OnTerm, IsRight}
 use Rattle.cedar_where.proofs.Parts.{if_plain, ap_both, from_one, from_two, from_three, not_null_held, null_beside_any, left_gone, right_gone}
 
 -- ---- `&&` and `||`

@@ -1,6 +1,6 @@
 -- Parts of a condition: their outcomes, and the cells of SQL for them.
-use Rattle.std.proofs.Common.{◌≡◌, Bool, true, false, ◌&&◌, ◌||◌, Option, Some, None, ℤ, refl, ap, ◌∙◌, if◌then◌else◌}
-use Rattle.cedar_types.specs.Names.{Text, Path}
+use Rattle.std.proofs.Common.{◌≡◌, Bool, true, false, ◌&&◌, Option, Some, None, ℤ, refl, ap, ◌∙◌, if◌then◌else◌}
+use Rattle.cedar_types.specs.Names.{Text}
 use Rattle.cedar_types.specs.Values.{Value, VBool, VLong, VString, VEntity}
 use Rattle.cedar_typing.specs.Evaluation.World.{Failure, Outcome, Gives, Fails}
 use Rattle.cedar_where.specs.Compiled.{Kind, KBool, KLong, KText, KEntity, Term}

@@ -1,12 +1,12 @@
 -- Paths of attributes: columns and parameters hold the values at their ends.
-use Rattle.std.proofs.Common.{◌≡◌, Bool, true, false, ◌&&◌, ◌||◌, List, [], ◌∷◌, ◌++◌, Option, Some, None, option_map, is_some, if◌then◌else◌, refl, sym, ap, subst, ◌∙◌}
+use Rattle.std.proofs.Common.{◌≡◌, Bool, true, false, ◌&&◌, ◌||◌, List, [], ◌∷◌, ◌++◌, Option, Some, None, option_map, if◌then◌else◌, refl, sym, ap, subst, ◌∙◌}
 use Rattle.cedar_types.specs.declared.base.expressions.operators.Var.{Var}
 use Rattle.cedar_types.specs.Environments.{DeclaredEnv}
 use Rattle.cedar_types.specs.Expressions.Tree.{entity, lit, var, get_attr}
 use Rattle.cedar_types.specs.Lemmas.Comparisons.{path_same}
 use Rattle.cedar_types.specs.Names.{Text, Path, Uid, path_eq}
 use Rattle.cedar_types.specs.Schemas.{Schema, type_named}
-use Rattle.cedar_types.specs.Types.{Ty, TRecord, TEntity, Attrs, sole}
+use Rattle.cedar_types.specs.Types.{Ty, TRecord, TEntity, Attrs}
 use Rattle.cedar_types.specs.Types.Bounds.{find_attr}
 use Rattle.cedar_types.specs.Types.Lookups.{attribute_type, declared_attribute}
 use Rattle.cedar_types.specs.Values.{Value, VBool, VEntity, VRecord, Entries, entry_at, HasType, HasAttr}
@@ -16,8 +16,8 @@ use Rattle.cedar_typing.proofs.Bounds.Attributes.{AttrAt, found_at}
 use Rattle.cedar_typing.specs.Evaluation.Conformance.{FitsRequest}
 use Rattle.cedar_typing.specs.Evaluation.Eval.{eval, get, has_test, path_test, attribute_value, entity_get, entity_has, variable_value}
 use Rattle.cedar_typing.specs.Evaluation.Outcomes.{Test, Says, Stops, and_test, of_test, then_test, on_value}
-use Rattle.cedar_typing.specs.Evaluation.World.{Failure, MissingEntity, World, Outcome, Gives, Fails}
-use Rattle.cedar_typing.specs.TypedExpr.{Mark, TypedTree}
+use Rattle.cedar_typing.specs.Evaluation.World.{Failure, World, Outcome, Gives, Fails}
+use Rattle.cedar_typing.specs.TypedExpr.{TypedTree}
 use Rattle.cedar_where.specs.Compiled.{Kind, KBool, KEntity, Term, entity_kind, column_kind, value_of_kind, value_at}
 use Rattle.cedar_where.specs.Compiled.{attribute_term, has_value, has_guarded, has_behind, has_term}
 use Rattle.cedar_where.specs.Routes.{Origin, FromVariable, FromRow, FromEntity, Route, sql_at, is_plain, may_follow, is_record, entity_type_of}

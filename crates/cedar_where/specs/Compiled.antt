@@ -1,6 +1,6 @@
 -- Expressions of SQL for parts of a condition, and the parts that have none.
 use Rattle.std.specs.Prelude.{Bool, true, false, not, ◌&&◌, ◌||◌, ℕ, List, [], ◌∷◌, Option, Some, None, option_map, nat_eq, if◌then◌else◌}
-use Rattle.std.specs.List.{list_any, list_all}
+use Rattle.std.specs.List.{list_all}
 use Rattle.cedar_types.specs.declared.base.expressions.operators.BinaryOp.{BinaryOp}
 use Rattle.cedar_types.specs.declared.base.expressions.operators.UnaryOp.{UnaryOp}
 use Rattle.cedar_types.specs.declared.base.expressions.operators.Var.{Var}
@@ -140,12 +140,15 @@ abbrev pub value_behind : Scope → TypedTree → Text → List Text → Option 
 value_behind s a x xs = value_at (follow s.schema xs (behind s a x (route s a)))
 
 -- an entity that is not stored has no attribute, and a path that ends early has no value at its end
-abbrev pub has_at : TypedTree → Option Route → Option Term → Option Term
-has_at (var m Var.Resource) r y = has_value y
-has_at e r y = has_behind r y
+abbrev pub is_resource : TypedTree → Bool
+is_resource (var m Var.Resource) = true
+is_resource e = false
+
+abbrev pub has_at : Bool → Option Route → Option Term → Option Term
+has_at b r y = if b then has_value y else has_behind r y
 
 abbrev pub has_term : Scope → TypedTree → Text → List Text → Option Term
-has_term s a x xs = has_at a (route s a) (value_behind s a x xs)
+has_term s a x xs = has_at (is_resource a) (route s a) (value_behind s a x xs)
 
 -- ---- operators
 

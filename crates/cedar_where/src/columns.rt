@@ -4,7 +4,7 @@ ghost use Rattle.cedar_types.specs.Names.{text_of};
 ghost use Rattle.cedar_types.specs.Schemas.Contents.{schema_of};
 ghost use Rattle.cedar_types.specs.Types.{ty_of};
 ghost use Rattle.cedar_typing.specs.TypedExpr.{typed_tree};
-ghost use Rattle.cedar_where.specs.Compiled.{attribute_term, column_kind, has_at, has_behind, has_guarded, has_term, has_value, value_at, value_behind};
+ghost use Rattle.cedar_where.specs.Compiled.{attribute_term, column_kind, has_at, has_behind, has_guarded, has_term, has_value, is_resource, value_at, value_behind};
 ghost use Rattle.cedar_where.specs.Routes.{follow};
 ghost use Rattle.cedar_where.specs.Views.{kind_of, route_of, scope_of, term_in};
 
@@ -85,23 +85,33 @@ pub(crate) fn has_term(
 {
     let value = value_behind(alloc, scope, loc, base, name, names)?;
     let before = find_route(alloc, scope, base)?;
-    has_at(alloc, loc, base, before, value)
+    has_at(alloc, loc, is_resource(base), before, value)
 }
 
 /// The test of a value behind a part: the resource is stored, so NULL tells that it lacks the value.
 fn has_at(
     alloc: Global,
     loc: Option<Loc>,
-    base: &Typed,
+    is_resource: bool,
     before: Option<Route>,
     value: Compiled,
 ) -> Result<Compiled, AllocError>
     ensures { IfOk result (λ t.
-        has_at (typed_tree base.now) (option_map route_of before) (term_in value) ≡ term_in t) }
+        has_at is_resource (option_map route_of before) (term_in value) ≡ term_in t) }
 {
-    match &base.kind {
-        ExprKind::Var(Var::Resource) => has_value(alloc, value),
-        _ => has_behind(alloc, loc, before, value),
+    if is_resource {
+        has_value(alloc, value)
+    } else {
+        has_behind(alloc, loc, before, value)
+    }
+}
+
+fn is_resource(e: &Typed) -> bool
+    ensures { result ≡ is_resource (typed_tree e.now) }
+{
+    match &e.kind {
+        ExprKind::Var(Var::Resource) => true,
+        _ => false,
     }
 }
 
