@@ -1,5 +1,6 @@
 // Tasks of the program, over any files and any writers.
-ghost use Rattle.std.specs.Prelude.{◌≡◌, IfOk};
+ghost use Rattle.std.specs.Prelude.{◌≡◌, IfOk, OnOk};
+ghost use Rattle.cedar_findings.specs.Counts.{CountsSame};
 ghost use Rattle.cedar_validate.specs.Outcomes.{outcome_by, status_by, CountsNoRefusal};
 
 use crate::outcomes::Outcome;
@@ -55,7 +56,9 @@ impl<R: Files + AllocGlobal + Input, O: Write, T: Write> Call<'_, R, O, T> {
     }
 
     /// Writes the output so far.
-    pub fn write_shown(&mut self) -> io::Result<()> {
+    pub fn write_shown(&mut self) -> io::Result<()>
+        ensures { OnOk result (CountsSame self.old.output self.new.output) }
+    {
         self.out.write_all(self.output.shown().as_bytes())?;
         self.output.clear();
         Ok(())

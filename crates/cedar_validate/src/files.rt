@@ -1,4 +1,7 @@
 // Texts of files, and the schema, the links and the data in them.
+ghost use Rattle.std.specs.Prelude.{◌≡◌, None, IfOk, IfSome, OnOk};
+ghost use Rattle.cedar_findings.specs.Counts.{CountsFaults, CountsSame};
+
 use crate::call::Call;
 use cedar_findings::sources::{Source, read};
 use cedar_findings::syntaxes::Syntax;
@@ -13,14 +16,21 @@ use std::rt::Files;
 
 impl<R: Files + AllocGlobal + Input, O: Write, T: Write> Call<'_, R, O, T> {
     /// The text of a file. If it cannot be read, the reason is shown, and the answer is `None`.
-    fn read_file(&mut self, name: &str) -> io::Result<Option<String>> {
+    fn read_file(&mut self, name: &str) -> io::Result<Option<String>>
+        ensures { OnOk result (CountsSame self.old.output self.new.output) }
+    {
         self.write_shown()?;
         let read = read(self.rt, name);
         Ok(self.output.text_of(self.rt.alloc(), name, read)?)
     }
 
-    /// The text of a file. A file that cannot be read is counted as a fault.
-    pub fn read_text(&mut self, name: &str) -> io::Result<Option<String>> {
+    /// The text of a file. A file that cannot be read is counted as a fault, and nothing else is counted.
+    pub fn read_text(&mut self, name: &str) -> io::Result<Option<String>>
+        ensures missing { IfOk result (λ text.
+            text ≡ None → CountsFaults 1 self.old.output self.new.output) }
+        ensures kept { IfOk result (λ text.
+            IfSome text (λ t. CountsSame self.old.output self.new.output)) }
+    {
         let text = self.read_file(name)?;
         if text.is_none() {
             self.output.totals.add_fault();
