@@ -20,7 +20,7 @@ LAWS = {
         f"{LEVELS}/promises.rt passing_copy_needs_slice_alone",
     ),
     "laws_of_nodes": ("cedar_node_types/src/lib.rt nodes_have_types reached_nodes_fit condition_types_hold",),
-    "laws_of_readings": ("cedar_alike/src/laws.rt typed_once each_part_decides",),
+    "laws_of_readings": ("cedar_alike/src/laws.rt typed_once policy_typed_once each_part_decides",),
     "laws_of_modes": (
         f"{TYPECHECK}/refinement.rt strict_is_kept strict_passes_in_permissive permissive_is_kept_in_partial", f"{LEVELS}/laws.rt strict_levels_are_kept",
     ),

@@ -6,3 +6,5 @@ pub mod Judgments
 pub mod Laws
 pub mod Environments
 pub mod Flags
+pub mod Actions
+pub mod Conditions

@@ -1,4 +1,5 @@
 //! The law of typing an expression once, and examples of it, each on a function that does nothing.
+ghost use Rattle.cedar_alike.specs.Conditions.{PolicyAgreementIsEnough};
 ghost use Rattle.cedar_alike.specs.Examples.{EachPartDecides};
 ghost use Rattle.cedar_alike.specs.TypedOnce.{AgreementIsEnough};
 
@@ -7,6 +8,13 @@ ghost use Rattle.cedar_alike.specs.TypedOnce.{AgreementIsEnough};
 /// the variables and slots that occur in it.
 pub fn typed_once()
     ensures { AgreementIsEnough }
+{}
+
+/// The condition of a policy has one answer in two environments, by a schema without faults, if they
+/// agree on what the rest reads and the scope's tests of the principal and of the resource, and if
+/// the scope admits both actions or neither. Both actions are declared, and of one type.
+pub fn policy_typed_once()
+    ensures { PolicyAgreementIsEnough }
 {}
 
 /// The type of each variable and of each slot can decide the type of an expression that reads it. Of

@@ -10,7 +10,7 @@ use Rattle.cedar_types.specs.Expressions.View.{Written}
 use Rattle.cedar_typing.specs.Capabilities.{Caps}
 use Rattle.cedar_typing.specs.Composition.{in_env}
 use Rattle.cedar_typing.specs.Eager.{Expectation, first_expectation, later_expectations}
-use Rattle.cedar_typing.specs.Infer.{unless_too_deep, infer, infer_within, infer_all, infer_fields}
+use Rattle.cedar_typing.specs.Infer.{unless_too_deep, infer_within, infer_all, infer_fields}
 use Rattle.cedar_typing.specs.Infer.Eager.{infer_eager}
 use Rattle.cedar_typing.specs.Infer.Leaves.{infer_leaf}
 use Rattle.cedar_typing.specs.Infer.Parts.{AnswerAndErrors, expect, after}
@@ -53,7 +53,7 @@ module _ (s : Setting) (here elsewhere : Env) where
   literal_typed (string t) = refl
   literal_typed (entity u) = refl
 
-  sides_same : (f : Connective) (m : Written) (a b : Source) (prior : Caps) (k : ℕ)
+  pub sides_same : (f : Connective) (m : Written) (a b : Source) (prior : Caps) (k : ℕ)
       → infer_within s1 a prior (k + 1) ≡ infer_within s2 a prior (k + 1)
       → ((known : Caps) → infer_within s1 b known (k + 1) ≡ infer_within s2 b known (k + 1))
       → sides s1 f m a b prior k ≡ sides s2 f m a b prior k
@@ -156,6 +156,5 @@ module _ (s : Setting) (here elsewhere : Env) where
         λ i. more_same s here elsewhere false None (place_of e)
         (λ es. unless_too_deep k es (same_within e he prior k i es)) (same_fields fs hs prior k i) i
 
-  -- inference gives one answer
-  pub same_inference : (e : Source) → AgreeOn here elsewhere e → (prior : Caps) (k : ℕ) → infer s1 e prior k ≡ infer s2 e prior k
-  same_inference e h prior k = λ i es. unless_too_deep k es (same_within e (over_parts here elsewhere e h) prior k i es)
+  pub same_expression : (e : Source) → AgreeOn here elsewhere e → (prior : Caps) (k : ℕ) → infer_within s1 e prior k ≡ infer_within s2 e prior k
+  same_expression e h = same_within e (over_parts here elsewhere e h)
