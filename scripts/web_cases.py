@@ -71,16 +71,21 @@ CONTRAST = """(() => {
 })()"""
 
 
+# The calls that the page makes; the module has those by a handle too, which no page makes.
+OF_PAGE = ("validate", "check_data", "typed_conditions")
+
+
 def calls():
-    """The calls of caller_cases.py, and odd texts: a name and bytes."""
+    """The calls of caller_cases.py but those by a handle, and odd texts: a name and bytes."""
     for name, text in (("validate", b""), ("validate", b"\0"), ("validate", b"\xff"), ("validate", b"[" * (1 << 20)), ("check_data", b"{"), ("typed_conditions", b"{}")):
         yield f"cedar_{name}", text
     for _, _, call in caller_cases.application_calls():
         yield "cedar_validate", json.dumps(call).encode()
     for call in caller_cases.refused_calls().values():
-        yield from ((f"cedar_{name}", json.dumps(call).encode()) for name in ("validate", "check_data", "typed_conditions"))
+        yield from ((f"cedar_{name}", json.dumps(call).encode()) for name in OF_PAGE)
     for _, name, texts in caller_cases.deep_calls():
-        yield from (("cedar_" + name.replace("-", "_"), text.encode()) for text in texts)
+        if (call := name.replace("-", "_")) in OF_PAGE:
+            yield from ((f"cedar_{call}", text.encode()) for text in texts)
 
 
 def native(lib, asked):
