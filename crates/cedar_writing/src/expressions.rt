@@ -5,6 +5,9 @@ use crate::spans::{Span, Task};
 use crate::writer::Writer;
 use std::alloc::AllocError;
 
+/// The characters of a blank with `&&` or `||`, which end a line.
+const LOGICAL: usize = 3;
+
 impl<'t, 'a> Writer<'t, 'a> {
     /// Writes an expression, a member of a list or a part of a scope.
     pub fn expression(&mut self, span: Span) -> Result<(), AllocError> {
@@ -70,23 +73,24 @@ impl<'t, 'a> Writer<'t, 'a> {
         None
     }
 
-    /// Writes the first operand of a chain, and adds the rest of it at the beginning of a line.
+    /// Writes the first operand of a chain, and adds the rest of it. Lines end behind `&&` and `||`, and before other operators.
     pub fn chain(&mut self, span: Span, level: Level) -> Result<(), AllocError> {
         let inner = self.printer.inner(span.indent);
         let Some(at) = self.find(span, Role::Between(level)) else {
             return self.add(&[Task::Expression(span.with_indent(inner))]);
         };
         let rest = span.behind(at);
-        let gap = if level == Level::Relation && self.is_list(rest) {
-            Gap::Blank
-        } else {
-            Gap::Line(span.indent)
+        let line = Gap::Line(span.indent);
+        let (before, behind, tail) = match level {
+            Level::Or | Level::And => (Gap::Blank, line, LOGICAL),
+            Level::Relation if self.is_list(rest) => (Gap::Blank, Gap::Blank, 0),
+            _ => (line, Gap::Blank, 0),
         };
         self.add(&[
-            Task::Expression(span.before(at, 0).with_indent(inner)),
-            Task::Gap(gap),
+            Task::Expression(span.before(at, tail).with_indent(inner)),
+            Task::Gap(before),
             Task::Token(at),
-            Task::Gap(Gap::Blank),
+            Task::Gap(behind),
             Task::Chain(rest, level),
         ])
     }

@@ -63,7 +63,8 @@ when {
   && // two
   principal.b
   // three
-  && principal.c
+  &&
+  principal.c
 };
 ",
     ),
@@ -86,7 +87,8 @@ when {
 when { // open
   principal.a // close
   // after
-  && true
+  &&
+  true
 };
 ",
     ),

@@ -62,13 +62,13 @@ unless { !resource.x }
 when { 1 < 2 };
 ",
     ),
-    // a chain breaks before each of its weakest operators, and those inside stay where they fit
+    // a chain breaks behind each of its weakest operators, and those inside stay where they fit
     (
         "permit(principal,action,resource) when{principal.department==resource.department&&principal.level>=5||resource.isPublic};",
         "permit (principal, action, resource)
 when {
-  principal.department == resource.department && principal.level >= 5
-  || resource.isPublic
+  principal.department == resource.department && principal.level >= 5 ||
+  resource.isPublic
 };
 ",
     ),
@@ -76,10 +76,10 @@ when {
         "permit(principal,action,resource) when{principal has a&&principal.a has b&&principal.a.b has c&&principal.a.b.c==1};",
         "permit (principal, action, resource)
 when {
-  principal has a
-  && principal.a has b
-  && principal.a.b has c
-  && principal.a.b.c == 1
+  principal has a &&
+  principal.a has b &&
+  principal.a.b has c &&
+  principal.a.b.c == 1
 };
 ",
     ),
@@ -194,7 +194,7 @@ when { a::\"b\".c && true };
         indent: 0,
     };
     let wanted =
-        "permit (\nprincipal,\naction\n== A::Action::\"v\",\nresource\n)\nwhen {\na::\"b\".c\n&& true\n};\n";
+        "permit (\nprincipal,\naction\n== A::Action::\"v\",\nresource\n)\nwhen {\na::\"b\".c &&\ntrue\n};\n";
     assert_eq!(rt; shown_in(alloc, NARROW, none)?.as_str(), wanted);
     Ok(())
 }
