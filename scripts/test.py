@@ -7,7 +7,8 @@ refused; `queries`, where-clauses in SQLite; `applications`, all that cedar-vali
 texts; `callers`, the C library called from other languages; `page`, the page in a browser; `release` and `packages`, a
 release and its packages as users have them; and `editors`, the language server as editors use it. Languages, browsers and
 editors that the machine has not are skipped.
-Without words all run but `page`, `release` and `packages`, side by side where processors are free.
+Without words all run, side by side where processors are free. Beside the gate, as in CI, `page`, `release` and `packages` run only
+if they are named, because the page has times to keep, and the others build for minutes.
 
 The programs are built without a proof (scripts/unproved.py) and kept, so that a second run builds nothing where no text
 has changed. Nothing is proved: `scripts/prove` proves, and runs what Rattle's own compiler builds. The last line counts what
@@ -182,8 +183,8 @@ def packages():
 # stand behind it.
 LINES = ((programs, refused, queries, editors), (tests, texts), (product, applications, pieces), (callers, page, release, packages))
 PARTS = {part.__name__: part for line in LINES for part in line}
-# Parts that run only if they are named, because each builds a release or a module for browsers.
-NAMED = (page, release, packages)
+# Parts that run only if they are named while this word of the environment says that the gate runs beside them.
+NAMED, BESIDE = (page, release, packages), "GATE_BESIDE"
 
 
 class Counts:
@@ -212,7 +213,8 @@ def main(words):
         print("0 passed, 1 failed")
         return 2
     begun, counts = time.monotonic(), Counts()
-    lines = [[part for part in line if (part.__name__ in words if words else part not in NAMED)] for line in LINES]
+    left_out = NAMED if os.environ.get(BESIDE) else ()
+    lines = [[part for part in line if (part.__name__ in words if words else part not in left_out)] for line in LINES]
     with ThreadPoolExecutor(min(len(os.sched_getaffinity(0)), len(LINES))) as lanes:
         for done in [lanes.submit(counts.run, line) for line in lines]:
             done.result()
